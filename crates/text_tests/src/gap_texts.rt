@@ -118,7 +118,28 @@ B
 E 6
 T 12 0 1
 end
+== row 4
+gap 2
+path c c c c
+chance 9 16
+ceiling 12
+nodes 7
+B
+O 4
+B
+X 6 2
+E 5
+O 12
+X 0 0
+end
 ";
+
+// With an exchange, which no text of version 1 has.
+const ONE_EXCHANGE: &str =
+    "gap 2\npath a a\nchance 12 16\nceiling 12\nnodes 3\nB\nX 6 1\nO 12\nend\n";
+
+const ONE_EXCHANGE_1: &str =
+    "gap 1\npath a a\nchance 12 16\nceiling 12\nnodes 3\nB\nX 6 1\nO 12\nend\n";
 
 // Whether a gap plan prints to these bytes, behind what stood there.
 fn prints_to(alloc: Global, sc: &Scenario, plan: &GapPlan, text: &str) -> Result<bool, Fail>
@@ -162,7 +183,7 @@ fn rows_that_print_back(alloc: Global, table: &str) -> Result<u32, Fail> {
 
 #[test]
 fn gap_texts_print_back(rt: HostRuntime) -> Result<(), Fail> {
-    assert_eq!(rt; rows_that_print_back(rt.alloc(), GAPS)?, 9);
+    assert_eq!(rt; rows_that_print_back(rt.alloc(), GAPS)?, 10);
     Ok(())
 }
 
@@ -204,6 +225,20 @@ fn gap_fronts_end_early(rt: HostRuntime) -> Result<(), Fail> {
         fronts_that_end_early(rt.alloc(), TWO_WAIT_2)?,
         TWO_WAIT_2.len()
     );
+    Ok(())
+}
+
+fn are_of_version_2(alloc: Global, sc: &Scenario) -> Result<bool, Fail> {
+    Ok(
+        prints(alloc, sc, ONE_EXCHANGE)?
+            && has_gap_fault(alloc, sc, ONE_EXCHANGE_1.as_bytes(), "7 BadLine")?,
+    )
+}
+
+#[test]
+fn exchanges_are_of_version_2(rt: HostRuntime) -> Result<(), Fail> {
+    let alloc = rt.alloc();
+    assert!(rt; asked(alloc, "ab 2", |sc| are_of_version_2(alloc, sc))?);
     Ok(())
 }
 

@@ -84,6 +84,7 @@ fn same_kind(a: &Kind, b: &Kind) -> bool {
         | (Kind::Mean(x), Kind::Mean(y))
         | (Kind::Edge(x), Kind::Edge(y)) => x == y,
         (Kind::Tangent(x, p), Kind::Tangent(y, q)) => x == y && p.cells() == q.cells(),
+        (Kind::Exchange(x, u), Kind::Exchange(y, v)) => x == y && u == v,
         _ => false,
     }
 }

@@ -193,4 +193,49 @@ B
 W 0
 W 1
 end
+== ab 2
+plan 3
+path a a
+chance 12 16
+nodes 5
+B
+B
+X 12 1
+W 12
+E 12
+end
+== ab 4
+plan 3
+path a a a a
+chance 12 16
+nodes 1
+M 12
+end
+== row 4
+plan 3
+path c c c c
+chance 9 16
+nodes 7
+B
+M 4
+B
+X 6 2
+E 5
+T 12 1 1 2 2
+X 340282366920938463463374607431768211455 0
+end
+== row 3
+plan 3
+path c c c
+chance 7 8
+nodes 8
+B
+M 4
+E 6
+B
+M 6
+B
+W 6
+W 7
+end
 ";

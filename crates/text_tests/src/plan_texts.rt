@@ -9,8 +9,8 @@ use search_model::Scenario;
 use std::alloc::{AllocError, Global};
 use std::test::Fail;
 use tree_format::{
-    Family, Fed, PlanFault, PlanFeed, PlanKind, PlanStop, Step, are_in_place, has_no_edge,
-    plan_kind_name, print_plan, print_plan_2, read_plan,
+    Dialect, Family, Fed, PlanFault, PlanFeed, PlanKind, PlanStop, Step, are_in_place, has_letters,
+    plan_kind_name, print_plan_in, read_plan,
 };
 
 const TWO_CELLS: &str =
@@ -26,21 +26,31 @@ const THREE_PERIODS: &str =
 const WITH_EDGE: &str =
     "plan 2\npath c c c\nchance 7 8\nnodes 8\nB\nM 4\nE 6\nB\nM 6\nB\nW 6\nW 7\nend\n";
 
+// With an exchange, which no text of the versions before has.
+const WITH_EXCHANGE: &str =
+    "plan 3\npath c c c c\nchance 9 16\nnodes 7\nB\nM 4\nB\nX 6 2\nE 5\nT 12 1 1 2 2\nM 3\nend\n";
+
+// The dialect that the first line of a text of plans has.
+fn dialect_of(text: &str) -> Dialect {
+    if text.starts_with("plan 1\n") {
+        Dialect::PlanOne
+    } else if text.starts_with("plan 2\n") {
+        Dialect::PlanTwo
+    } else {
+        Dialect::PlanThree
+    }
+}
+
 // Whether a plan prints to this text, of its version, behind what stood there.
 fn prints(alloc: Global, sc: &Scenario, text: &str) -> Result<bool, Fail> {
     let mut out = Vec::from_slice(alloc, b"!")?;
     match read_plan(alloc, sc, text.as_bytes()) {
-        Ok(plan) if text.starts_with("plan 2\n") => {
-            if !are_in_place(alloc, sc, &plan)? {
-                return Ok(false);
-            }
-            print_plan_2(&mut out, sc, &plan)?;
-        }
         Ok(plan) => {
-            if !has_no_edge(&plan) {
+            let dialect = dialect_of(text);
+            if !has_letters(dialect, &plan) || !are_in_place(alloc, sc, dialect, &plan)? {
                 return Ok(false);
             }
-            print_plan(&mut out, sc, &plan)?;
+            print_plan_in(&mut out, dialect, sc, &plan)?;
         }
         Err(_) => return Ok(false),
     }
@@ -85,7 +95,7 @@ fn rows_that_print_back(alloc: Global, table: &str) -> Result<u32, Fail> {
 // A branch opens as many records as its position has moves.
 #[test]
 fn texts_print_back(rt: HostRuntime) -> Result<(), Fail> {
-    assert_eq!(rt; rows_that_print_back(rt.alloc(), TEXTS)?, 18);
+    assert_eq!(rt; rows_that_print_back(rt.alloc(), TEXTS)?, 22);
     Ok(())
 }
 
@@ -94,21 +104,32 @@ fn is_tangent(node: &TreeNode, prefix: &[u8], number: u128, reference: &[u8]) ->
         Kind::Tangent(bound, path) => {
             node.prefix.cells() == prefix && bound == number && path.cells() == reference
         }
-        Kind::Branch | Kind::Whole(_) | Kind::Mean(_) | Kind::Edge(_) => false,
+        Kind::Branch | Kind::Whole(_) | Kind::Mean(_) | Kind::Edge(_) | Kind::Exchange(..) => false,
     }
 }
 
 fn is_mean(node: &TreeNode, prefix: &[u8], number: u128) -> bool {
     match node.kind {
         Kind::Mean(bound) => node.prefix.cells() == prefix && bound == number,
-        Kind::Branch | Kind::Whole(_) | Kind::Tangent(_, _) | Kind::Edge(_) => false,
+        Kind::Branch | Kind::Whole(_) | Kind::Tangent(..) | Kind::Edge(_) | Kind::Exchange(..) =>
+            false,
     }
 }
 
 fn is_edge(node: &TreeNode, prefix: &[u8], number: u128) -> bool {
     match node.kind {
         Kind::Edge(bound) => node.prefix.cells() == prefix && bound == number,
-        Kind::Branch | Kind::Whole(_) | Kind::Mean(_) | Kind::Tangent(_, _) => false,
+        Kind::Branch | Kind::Whole(_) | Kind::Mean(_) | Kind::Tangent(..) | Kind::Exchange(..) =>
+            false,
+    }
+}
+
+fn is_exchange(node: &TreeNode, prefix: &[u8], number: u128, position: u8) -> bool {
+    match node.kind {
+        Kind::Exchange(bound, u) => {
+            node.prefix.cells() == prefix && bound == number && u == position
+        }
+        Kind::Branch | Kind::Whole(_) | Kind::Mean(_) | Kind::Tangent(..) | Kind::Edge(_) => false,
     }
 }
 
@@ -140,7 +161,17 @@ fn says_two_cells_2(plan: &Plan) -> bool {
 // A plan with an edge bound has no text of version 1.
 fn says_an_edge(plan: &Plan) -> bool {
     match plan.tree.nodes() {
-        [_, _, edge, ..] => !has_no_edge(plan) && is_edge(edge, &[1], 6),
+        [_, _, edge, ..] => !has_letters(Dialect::PlanOne, plan) && is_edge(edge, &[1], 6),
+        _ => false,
+    }
+}
+
+// A plan with an exchange has no text of version 2.
+fn says_an_exchange(plan: &Plan) -> bool {
+    match plan.tree.nodes() {
+        [_, _, _, exchange, ..] => {
+            !has_letters(Dialect::PlanTwo, plan) && is_exchange(exchange, &[1, 0], 6, 2)
+        }
         _ => false,
     }
 }
@@ -174,6 +205,10 @@ fn texts_say_plans(alloc: Global) -> Result<bool, Fail> {
             alloc,
             "row 3",
             |sc| says(alloc, sc, WITH_EDGE, says_an_edge),
+        )? && asked(
+            alloc,
+            "row 4",
+            |sc| says(alloc, sc, WITH_EXCHANGE, says_an_exchange),
         )?,
     )
 }
@@ -200,6 +235,69 @@ fn with_line(alloc: Global, whole: &str, number: u64, bytes: &[u8]) -> Result<Ve
         }
     }
     Ok(text)
+}
+
+// Lines in the place of the exchange, each with its fault: of the number of its fields, of its number, of its position.
+const NO_EXCHANGES: &str = "\
+X = BadLine
+X 6 = BadLine
+X 6 2 1 = BadLine
+X 6 1 0 2 = BadLine
+X  6 2 = BadLine
+x 6 2 = BadLine
+X 06 2 = BadNumber
+X 340282366920938463463374607431768211456 2 = BadNumber
+X -1 2 = BadNumber
+X 6 02 = BadNumber
+X 6 3 = BadNumber
+X 6 c = BadNumber
+X b c = BadNumber";
+
+// Whether the text with this line in the place of its exchange has the fault.
+fn exchange_has_fault(alloc: Global, sc: &Scenario, row: &str) -> Result<bool, Fail> {
+    match row.split_once(" = ") {
+        Some((line, kind)) => {
+            let line = format!(in alloc; "{line}\n")?;
+            let fault = format!(in alloc; "8 {kind}")?;
+            let text = with_line(alloc, WITH_EXCHANGE, 8, line.as_bytes())?;
+            has_fault(alloc, sc, &text, &fault)
+        }
+        None => Ok(false),
+    }
+}
+
+fn exchanges_with_faults(alloc: Global, sc: &Scenario) -> Result<u32, Fail> {
+    let mut count = 0u32;
+    for row in NO_EXCHANGES.split("\n") {
+        if exchange_has_fault(alloc, sc, row)? {
+            count = count.saturating_add(1);
+        }
+    }
+    Ok(count)
+}
+
+#[test]
+fn exchanges_have_faults(rt: HostRuntime) -> Result<(), Fail> {
+    let alloc = rt.alloc();
+    assert_eq!(rt;
+        asked(alloc, "row 4", |sc| exchanges_with_faults(alloc, sc))?,
+        13
+    );
+    Ok(())
+}
+
+// In the versions before, the line of an exchange has no letter that they know.
+fn are_unknown_before(alloc: Global, sc: &Scenario) -> Result<bool, Fail> {
+    let one = with_line(alloc, WITH_EXCHANGE, 1, b"plan 1\n")?;
+    let two = with_line(alloc, WITH_EXCHANGE, 1, b"plan 2\n")?;
+    Ok(has_fault(alloc, sc, &one, "8 BadLine")? && has_fault(alloc, sc, &two, "8 BadLine")?)
+}
+
+#[test]
+fn exchanges_are_of_version_3(rt: HostRuntime) -> Result<(), Fail> {
+    let alloc = rt.alloc();
+    assert!(rt; asked(alloc, "row 4", |sc| are_unknown_before(alloc, sc))?);
+    Ok(())
 }
 
 #[test]

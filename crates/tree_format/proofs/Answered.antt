@@ -1,5 +1,5 @@
 -- What the answer to a reader says of the text.
-use Rattle.std.proofs.Common.{◌≡◌, ℕ, List, Result, Ok, Err, sym, ap, ◌∙◌, inl, inr}
+use Rattle.std.proofs.Common.{◌≡◌, ℕ, List, Result, Ok, Err, sym, ap, ◌∙◌}
 use Rattle.search_model.specs.Problem.{Problem, IsProblem}
 use Rattle.bound_tree.specs.declared.plan.Plan.{Plan}
 use Rattle.bound_tree.specs.declared.gap.GapPlan.{GapPlan}
@@ -19,10 +19,7 @@ use Rattle.tree_format.proofs.FirstFaults.{first_fault_decides}
 
 -- what has a text can be printed
 pub printable_read : (p : Problem) (plan : Plan) (text : List ℕ) → IsTextOfPlan p plan text → IsPrintable p plan
-printable_read p plan text spelled = elim spelled [
-  | inl one ↦ one.printable
-  | inr two ↦ two.printable
-]
+printable_read p plan text spelled = spelled.2.printable
 
 -- what reading gives is answered, unless memory ran out
 answer_said : {A : Type 0} (read : Result A PlanFault) (plan : A) (result : Result A PlanStop) → Reads read result → read ≡ Ok plan → Says result plan

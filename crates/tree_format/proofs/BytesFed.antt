@@ -1,5 +1,5 @@
 -- What a byte more of a plan's text brings, or bytes of a line and its line feed.
-use Rattle.std.proofs.Common.{◌≡◌, ℕ, ◌+◌, ◌-◌, List, [], ◌∷◌, ◌++◌, map, length, take, Result, Ok, Err, refl, sym, ap, subst, ◌∙◌, arith, append_assoc, length-append, inl, inr}
+use Rattle.std.proofs.Common.{◌≡◌, ℕ, ◌+◌, ◌-◌, Bool, true, false, cond, List, [], ◌∷◌, ◌++◌, map, length, take, Result, Ok, Err, refl, sym, ap, subst, ◌∙◌, arith, append_assoc, length-append, inl, inr}
 use Rattle.std.specs.Prelude.{All, ◌==◌}
 use Rattle.std.proofs.lemmas.Bool.{cond_both, eqb-true, eqb-false}
 use Rattle.std.proofs.lemmas.List.{map-append}
@@ -15,9 +15,9 @@ use Rattle.tree_format.specs.declared.kind.PlanKind.TheVariants.{BadLine, Rest}
 use Rattle.search_model.specs.Legal.{IsLegal}
 use Rattle.tree_format.specs.declared.due.Due.{Due}
 use Rattle.tree_format.specs.declared.plan_line.Dialect.{Dialect}
-use Rattle.tree_format.specs.declared.plan_line.Dialect.TheVariants.{PlanOne, PlanTwo, GapOne, GapTwo}
 use Rattle.tree_format.specs.declared.plan_line.Family.{Family}
-use Rattle.tree_format.specs.Dialects.{family_of, most_records, prefixes_in, numbers_in}
+use Rattle.tree_format.specs.declared.plan_line.Family.TheVariants.{Plans, Gaps}
+use Rattle.tree_format.specs.Dialects.{family_of, most_records, has_open, prefixes_in, numbers_in}
 use Rattle.tree_format.specs.declared.plan_line.Stage.{Stage}
 use Rattle.tree_format.specs.declared.plan_line.Stage.TheVariants as due
 use Rattle.tree_format.specs.declared.plan_line.PlanLine.{PlanLine}
@@ -30,12 +30,14 @@ use Rattle.text_rows.specs.Fields.{exact_fields}
 use Rattle.text_rows.specs.Lines.{HasNoFeed, lines_text}
 use Rattle.text_rows.proofs.LineMachine.{taken_last}
 use Rattle.text_rows.proofs.Results.{err_ok}
-use Rattle.tree_format.specs.Reading.{line_at, stage_line, behind_chance, next, taken, is_ended, at_line_number, unread, behind, plan_lines, unless_more, text_at}
+use Rattle.tree_format.specs.Reading.{line_at, stage_line, next, taken, is_ended, at_line_number, unread, behind, plan_lines, unless_more, text_at}
 use Rattle.tree_format.specs.Gathering.{Gathered, nothing_gathered, gathered}
 use Rattle.tree_format.specs.FeedSteps.{Stand, Moved, stand_at, moved, step_of, line_ended, line_begun, byte_fed}
+use Rattle.tree_format.specs.PlanText.{HasNodeLetter}
+use Rattle.tree_format.proofs.Families.{none_waits}
 use Rattle.tree_format.specs.Feeding.{told, HasRead, Tells, IsDecided, IsKindOf, IsItem, GoesOn}
 use Rattle.tree_format.proofs.AtLines.{ended_stage, unended_stage, unended, at_fault, at_end}
-use Rattle.tree_format.proofs.SpelledLines.{IsLettered, version_told, path_told, chance_told, ceiling_told, count_told, record_told, IsRecordLine, record_printable, IsEndLine}
+use Rattle.tree_format.proofs.SpelledLines.{version_told, path_told, chance_told, ceiling_told, count_told, record_told, IsRecordLine, record_printable, IsEndLine}
 use Rattle.tree_format.proofs.Spelled.{IsReadAt, IsRead, family_due, expected_legal, lines_on, numbers_on}
 use Rattle.tree_format.proofs.Gatherings.{gathered_append, gathered_judged}
 use Rattle.tree_format.proofs.Feedings.{lines_more, text_more}
@@ -52,20 +54,18 @@ LineTells p number d plan begun said =
     StepTells (family_due d) p (told d.stage plan) (step_of (stand_at number d plan begun) said) (told (next p d said).stage (taken plan said))
 
 -- a kind for which a dialect has a letter may stand in its family
-known_kind : (v : Dialect) (kind : GapKind) → IsLettered v kind → IsKindOf (family_of v) kind
-known_kind PlanOne (Closed kind) known = tt
-known_kind PlanOne (Waiting n) known = absurd known
-known_kind PlanTwo (Closed kind) known = tt
-known_kind PlanTwo (Waiting n) known = absurd known
-known_kind GapOne kind known = tt
-known_kind GapTwo kind known = tt
+known_in : (v : Dialect) (family : Family) (kind : GapKind) → family_of v ≡ family → HasNodeLetter v kind → IsKindOf family kind
+known_in v Plans (Closed kind) e known = tt
+known_in v Plans (Waiting n) e known = absurd (let never : has_open v ≡ false = none_waits v e in let bad : ⊥ = cc in bad)
+known_in v Gaps kind e known = tt
+
+known_kind : (v : Dialect) (kind : GapKind) → HasNodeLetter v kind → IsKindOf (family_of v) kind
+known_kind v kind known = known_in v (family_of v) kind refl known
 
 -- no item is told by the line of the chance
-nothing_told : (v : Dialect) (plan : GapPlan) → told (behind_chance v) plan ≡ []
-nothing_told PlanOne plan = refl
-nothing_told PlanTwo plan = refl
-nothing_told GapOne plan = refl
-nothing_told GapTwo plan = refl
+nothing_told : (b : Bool) (plan : GapPlan) → told (cond b due.Ceiling due.Count) plan ≡ []
+nothing_told true plan = refl
+nothing_told false plan = refl
 
 module _ (p : Problem) (h : IsProblem p) (number : ℕ) (plan : GapPlan) (begun : List ℕ) (v : Dialect) (expected fields : List (List ℕ)) (said : PlanLine) where
   abbrev at_stage : Stage → Due
@@ -94,7 +94,7 @@ module _ (p : Problem) (h : IsProblem p) (number : ℕ) (plan : GapPlan) (begun 
   stage_tells : (stage : Stage) → plan.numbers ≡ numbers_in v → IsReadAt p v expected stage plan → stage_line p v stage expected fields ≡ Ok said → LineTells p number (at_stage stage) plan begun said
   stage_tells (due.Version family) numbers read e = subst (LineTells p number (at_stage (due.Version family)) plan begun) (sym (version_told family fields said e).is) refl
   stage_tells due.Path numbers read e = subst (LineTells p number (at_stage due.Path) plan begun) (sym (path_told p h fields said e).is) refl
-  stage_tells due.Chance numbers read e = subst (LineTells p number (at_stage due.Chance) plan begun) (sym (chance_told fields said e).is) (nothing_told v _)
+  stage_tells due.Chance numbers read e = subst (LineTells p number (at_stage due.Chance) plan begun) (sym (chance_told fields said e).is) (nothing_told (has_open v) _)
   stage_tells due.Ceiling numbers read e = subst (LineTells p number (at_stage due.Ceiling) plan begun) (sym (ceiling_told fields said e).is) refl
   stage_tells due.Count numbers read e =
       let line = count_told (most_records (family_of v)) fields said e in

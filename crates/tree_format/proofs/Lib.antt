@@ -5,6 +5,8 @@ pub mod AtLines
 pub mod Said
 pub mod ReadsBack
 pub mod Told
+pub mod Families
+pub mod Letters
 pub mod SpelledLines
 pub mod Spelled
 pub mod Answered

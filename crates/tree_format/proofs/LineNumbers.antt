@@ -1,5 +1,5 @@
 -- The number of a line is small.
-use Rattle.std.proofs.Common.{◌≡◌, ℕ, ◌≤◌, ◌+◌, List, Result, Ok, Err, sym, subst, arith, inl, inr}
+use Rattle.std.proofs.Common.{◌≡◌, ℕ, ◌≤◌, ◌+◌, Bool, true, false, cond, List, Result, Ok, Err, sym, subst, arith, inl, inr}
 use Rattle.std.specs.Prelude.{IfOk}
 use Rattle.std.proofs.lemmas.Bool.{cond_both}
 use Rattle.search_model.specs.Problem.{Problem, IsProblem}
@@ -7,14 +7,13 @@ use Rattle.tree_format.specs.declared.kind.PlanKind.{PlanKind}
 use Rattle.tree_format.specs.declared.kind.PlanKind.TheVariants.{BadLine}
 use Rattle.tree_format.specs.declared.due.Due.{Due}
 use Rattle.tree_format.specs.declared.plan_line.Dialect.{Dialect}
-use Rattle.tree_format.specs.declared.plan_line.Dialect.TheVariants.{PlanOne, PlanTwo, GapOne, GapTwo}
 use Rattle.tree_format.specs.declared.plan_line.Family.{Family}
 use Rattle.tree_format.specs.declared.plan_line.Family.TheVariants.{Plans, Gaps}
-use Rattle.tree_format.specs.Dialects.{family_of, most_records}
+use Rattle.tree_format.specs.Dialects.{family_of, most_records, has_open}
 use Rattle.tree_format.specs.declared.plan_line.Stage.{Stage}
 use Rattle.tree_format.specs.declared.plan_line.Stage.TheVariants as due
 use Rattle.tree_format.specs.declared.plan_line.PlanLine.{PlanLine}
-use Rattle.tree_format.specs.Reading.{line_at, stage_line, behind_chance, next}
+use Rattle.tree_format.specs.Reading.{line_at, stage_line, next}
 use Rattle.tree_format.specs.FeedSteps.{lines_left, IsNumbered}
 use Rattle.tree_format.proofs.SpelledLines.{version_told, path_told, chance_told, ceiling_told, count_told, record_told}
 use Rattle.text_rows.proofs.Results.{err_ok}
@@ -27,11 +26,10 @@ pub few_records : (family : Family) → most_records family ≤ 4194305
 few_records Plans = omega arith
 few_records Gaps = omega arith
 
-chance_falls : (v : Dialect) → lines_left (behind_chance v) + 1 ≤ lines_left due.Chance
-chance_falls PlanOne = omega arith
-chance_falls PlanTwo = omega arith
-chance_falls GapOne = omega arith
-chance_falls GapTwo = omega arith
+-- whether a ceiling follows or not
+chance_falls : (b : Bool) → lines_left (cond b due.Ceiling due.Count) + 1 ≤ lines_left due.Chance
+chance_falls true = omega arith
+chance_falls false = omega arith
 
 module _ (p : Problem) (h : IsProblem p) (v : Dialect) (expected : List (List ℕ)) where
   abbrev at_stage : Stage → Due
@@ -40,7 +38,7 @@ module _ (p : Problem) (h : IsProblem p) (v : Dialect) (expected : List (List �
   pub stage_falls : (stage : Stage) (fields : List (List ℕ)) (said : PlanLine) → stage_line p v stage expected fields ≡ Ok said → Falls p (at_stage stage) said
   stage_falls (due.Version family) fields said e = subst (Falls p (at_stage (due.Version family))) (sym (version_told family fields said e).is) (omega arith)
   stage_falls due.Path fields said e = subst (Falls p (at_stage due.Path)) (sym (path_told p h fields said e).is) (omega arith)
-  stage_falls due.Chance fields said e = subst (Falls p (at_stage due.Chance)) (sym (chance_told fields said e).is) (chance_falls v)
+  stage_falls due.Chance fields said e = subst (Falls p (at_stage due.Chance)) (sym (chance_told fields said e).is) (chance_falls (has_open v))
   stage_falls due.Ceiling fields said e = subst (Falls p (at_stage due.Ceiling)) (sym (ceiling_told fields said e).is) (omega arith)
   stage_falls due.Count fields said e =
       let told = count_told (most_records (family_of v)) fields said e in

@@ -7,7 +7,7 @@ use Rattle.list_laws.proofs.Mapped.{map-map}
 use Rattle.text_rows.specs.Rows.{text_of, spaced}
 use Rattle.text_rows.proofs.RowLemmas.{join-fields, text_of-append}
 use Rattle.search_model.specs.Problem.{Problem}
-use Rattle.bound_tree.specs.declared.node.Kind.TheVariants.{Branch, Whole, Mean, Tangent, Edge}
+use Rattle.bound_tree.specs.declared.node.Kind.TheVariants.{Branch, Whole, Mean, Tangent, Edge, Exchange}
 use Rattle.bound_tree.specs.declared.gap.GapKind.{GapKind}
 use Rattle.bound_tree.specs.declared.gap.GapKind.TheVariants.{Closed, Waiting}
 use Rattle.bound_tree.specs.declared.gap.Numbers.{Numbers}
@@ -23,14 +23,19 @@ use Rattle.tree_format.specs.RecordParts.{letter_of, bound_fields, reference_of}
 abbrev pub after_letter : GapKind → List ℕ → List ℕ
 after_letter kind q = spaced (bound_fields kind) ++ (spaced (numbers q) ++ (spaced (numbers (reference_of kind)) ++ 10 ∷ []))
 
+-- the line of a record that refers to positions
+referring_text : (letter : List ℕ) (n : ℕ) (q reference : List ℕ) → text_of ((letter ∷ decimal n ∷ (numbers q ++ numbers reference)) ∷ []) ≡ letter ++ (spaced (decimal n ∷ []) ++ (spaced (numbers q) ++ (spaced (numbers reference) ++ 10 ∷ [])))
+referring_text letter n q reference =
+    ap (λ (x : List ℕ). x ++ 10 ∷ []) (join-fields letter (decimal n ∷ (numbers q ++ numbers reference)))
+    ∙ simp (append_assoc, flat_map-append)
+
 pub kind_text : (q : List ℕ) (kind : GapKind) → text_of (node_fields q kind ∷ []) ≡ letter_of kind ∷ after_letter kind q
 kind_text q (Closed Branch) = ap (λ (x : List ℕ). x ++ 10 ∷ []) (join-fields (codes "B") (numbers q))
 kind_text q (Closed (Whole value)) = ap (λ (x : List ℕ). x ++ 10 ∷ []) (join-fields (codes "W") (decimal value ∷ numbers q)) ∙ simp (append_assoc)
 kind_text q (Closed (Mean bound)) = ap (λ (x : List ℕ). x ++ 10 ∷ []) (join-fields (codes "M") (decimal bound ∷ numbers q)) ∙ simp (append_assoc)
-kind_text q (Closed (Tangent bound reference)) =
-    ap (λ (x : List ℕ). x ++ 10 ∷ []) (join-fields (codes "T") (decimal bound ∷ (numbers q ++ numbers reference)))
-    ∙ simp (append_assoc, flat_map-append)
+kind_text q (Closed (Tangent bound reference)) = referring_text (codes "T") bound q reference
 kind_text q (Closed (Edge bound)) = ap (λ (x : List ℕ). x ++ 10 ∷ []) (join-fields (codes "E") (decimal bound ∷ numbers q)) ∙ simp (append_assoc)
+kind_text q (Closed (Exchange bound u)) = referring_text (codes "X") bound q (u ∷ [])
 kind_text q (Waiting n) = ap (λ (x : List ℕ). x ++ 10 ∷ []) (join-fields (codes "O") (decimal n ∷ numbers q)) ∙ simp (append_assoc)
 
 -- the parts of the lines before the records

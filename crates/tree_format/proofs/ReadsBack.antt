@@ -1,22 +1,22 @@
 -- The text of a plan is read as that plan.
-use Rattle.std.proofs.Common.{◌≡◌, ℕ, suc, ◌+◌, ◌-◌, ◌<◌, ◌≤◌, ◌^◌, false, List, [], ◌∷◌, ◌++◌, map, length, take, drop, Some, Ok, refl, sym, ap, subst, ◌∙◌, arith, append_assoc, length-append, inl, inr}
+use Rattle.std.proofs.Common.{◌≡◌, ℕ, suc, ◌+◌, ◌-◌, ◌<◌, ◌≤◌, ◌^◌, Bool, true, false, cond, List, [], ◌∷◌, ◌++◌, map, length, take, drop, Some, Ok, refl, sym, ap, subst, ◌∙◌, arith, append_assoc, length-append, ◌⊎◌, inl, inr}
 use Rattle.std.specs.Prelude.{All, codes}
 use Rattle.std.specs.Fmt.{decimal}
 use Rattle.std.specs.List.{join_with_byte}
 use Rattle.std.proofs.Math.Seq.{take-append_seam, drop-append_seam}
 use Rattle.std.proofs.lemmas.Bool.{le-leb, ne_eqb}
 use Rattle.std.proofs.lemmas.List.{append-nil, length-map}
-use Rattle.std.proofs.lemmas.List.Elements.{All-nil, All-cons, All-get_or, All-head, All-tail, All-append, All-map, All-weaker}
+use Rattle.std.proofs.lemmas.List.Elements.{All-nil, All-cons, All-get_or, All-head, All-tail, All-append, All-map}
 use Rattle.text_rows.specs.Rows.{text_of}
 use Rattle.text_rows.specs.Lines.{HasNoFeed, lines_text}
 use Rattle.text_rows.specs.LineMachine.{AreTaken}
 use Rattle.text_rows.specs.Fields.{is_word}
 use Rattle.text_rows.proofs.RowTexts.{IsField, AreFields, IsRow, exact_fields-row, row_free, row_fields, none_empty, word, field_by, IsField-decimal, AreFields-map, AreFields-append}
 use Rattle.search_model.specs.Problem.{Problem, IsProblem, position_name, position_named}
-use Rattle.bound_tree.specs.declared.node.Kind.TheVariants.{Branch, Whole, Mean, Tangent, Edge}
+use Rattle.bound_tree.specs.declared.node.Kind.TheVariants.{Branch}
 use Rattle.bound_tree.specs.declared.node.TreeNode.{TreeNode}
 use Rattle.bound_tree.specs.declared.gap.GapKind.{GapKind}
-use Rattle.bound_tree.specs.declared.gap.GapKind.TheVariants.{Closed, Waiting}
+use Rattle.bound_tree.specs.declared.gap.GapKind.TheVariants.{Closed}
 use Rattle.bound_tree.specs.declared.gap.GapNode.{GapNode}
 use Rattle.bound_tree.specs.declared.gap.Numbers.{Numbers}
 use Rattle.bound_tree.specs.declared.gap.Numbers.TheVariants.{Means, Edges}
@@ -29,25 +29,28 @@ use Rattle.search_model.specs.Legal.{IsLegal}
 use Rattle.search_model.proofs.PlainSteps.{positions_follow}
 use Rattle.search_model.specs.Names.{IsName, is_name_byte}
 use Rattle.std.proofs.lemmas.Grind.{common_steps}
-use Rattle.tree_format.specs.PlanText.{numbers, node_fields, written, node_row, chance_row, ceiling_row, ceiling_rows, count_row, text_in, ArePositions, IsPrintableKind, IsPrintableRecord, IsPrintable, IsNarrow, IsTextOfPlan, IsNarrowNode, IsPrintableGap, IsNarrowGap, IsGapText, HasNoEdge, plan_text, plan_text_2}
+use Rattle.tree_format.specs.PlanText.{numbers, node_fields, written, node_row, chance_row, ceiling_row, ceiling_rows, count_row, text_in, ArePositions, IsPrintableKind, IsPrintableRecord, IsPrintable, IsNarrow, HasNodeLetter, HavePlaces, IsPlanTextIn, IsTextOfPlan, IsNarrowNode, IsPrintableGap, IsNarrowGap, IsGapText}
 use Rattle.tree_format.specs.declared.due.Due.{Due}
 use Rattle.tree_format.specs.declared.plan_line.Dialect.{Dialect}
-use Rattle.tree_format.specs.declared.plan_line.Dialect.TheVariants.{PlanOne, PlanTwo, GapOne, GapTwo}
+use Rattle.tree_format.specs.declared.plan_line.Dialect.TheVariants.{PlanOne, PlanTwo, PlanThree, GapOne, GapTwo}
 use Rattle.tree_format.specs.declared.plan_line.Family.{Family}
 use Rattle.tree_format.specs.declared.plan_line.Family.TheVariants.{Plans, Gaps}
 use Rattle.tree_format.specs.declared.plan_line.Prefixes.{Prefixes}
 use Rattle.tree_format.specs.declared.plan_line.Prefixes.TheVariants.{Written, LeftOut}
-use Rattle.tree_format.specs.Dialects.{family_of, version_row, most_records, prefixes_in, numbers_in, dialect_with}
+use Rattle.tree_format.specs.Dialects.{family_of, version_row, most_records, has_open, prefixes_in, numbers_in, dialect_with}
 use Rattle.tree_format.specs.declared.plan_line.Stage.{Stage}
 use Rattle.tree_format.specs.declared.plan_line.Stage.TheVariants as due
 use Rattle.tree_format.specs.declared.plan_line.PlanLine.{PlanLine}
 use Rattle.tree_format.specs.declared.plan_line.PlanLine.TheVariants.{Version, Path, Chance, Ceiling, Count, Node, End}
-use Rattle.tree_format.specs.ReadingLaws.{PlanTextReadsBack, PlanText2ReadsBack, GapTextReadsBack, OnePlanAText, OneGapAText}
-use Rattle.tree_format.specs.Reading.{is_end, ending, all_of, place_in, most_positions, node_line, placed, stage_line, line_at, at_start, blank_plan, places_behind, next, taken, Progress, behind, plan_lines, text_at, as_plan, plan_at, gap_at}
+use Rattle.tree_format.specs.ReadingLaws.{PlanTextReadsBack, GapTextReadsBack, OnePlanAText, OneGapAText}
+use Rattle.tree_format.specs.Reading.{is_end, ending, all_of, place_in, most_positions, bounded_line, node_of, node_line, placed, stage_line, line_at, at_start, blank_plan, places_behind, next, taken, Progress, behind, plan_lines, text_at, as_plan, plan_at, gap_at}
 use Rattle.tree_format.proofs.Said.{amount_in-decimal, place_in-decimal, position_named-name, all_of-map}
+use Rattle.tree_format.specs.Letters.{letter_for, referred}
+use Rattle.tree_format.proofs.Letters.{HasNumber, has_number, numbered_row, letter_field, letter_line}
+use Rattle.tree_format.proofs.Families.{none_waits, numbers_back, ceiling_read, ceiling_is_read}
 use Rattle.tree_format.proofs.AtLines.{unended, at_end}
-use Rattle.tree_format.proofs.SpelledLines.{IsLettered, HasPlace}
-use Rattle.tree_format.proofs.Spelled.{IsPathOf, IsCeiling, IsChanceOf, IsHeadOf, empty_legal}
+use Rattle.tree_format.proofs.SpelledLines.{HasPlace}
+use Rattle.tree_format.proofs.Spelled.{IsPathOf, IsChanceOf, IsHeadOf, empty_legal}
 use Rattle.tree_format.proofs.LineNumbers.{few_records}
 use Rattle.bound_tree.specs.Places.{AreInPlace}
 use Rattle.bound_tree.proofs.Ceilings.{shapes_of_closed}
@@ -102,6 +105,7 @@ at_stage v expected stage = record { dialect = v; stage = stage; expected = expe
 Takes-version : (p : Problem) (v : Dialect) → Takes p (at_start (family_of v)) (version_row v) (Version v)
 Takes-version p PlanOne = record { fields = (word (codes "plan") (omega arith) refl, (word (codes "1") (omega arith) refl, tt)); goes = λ e. cc; says = refl }
 Takes-version p PlanTwo = record { fields = (word (codes "plan") (omega arith) refl, (word (codes "2") (omega arith) refl, tt)); goes = λ e. cc; says = refl }
+Takes-version p PlanThree = record { fields = (word (codes "plan") (omega arith) refl, (word (codes "3") (omega arith) refl, tt)); goes = λ e. cc; says = refl }
 Takes-version p GapOne = record { fields = (word (codes "gap") (omega arith) refl, (word (codes "1") (omega arith) refl, tt)); goes = λ e. cc; says = refl }
 Takes-version p GapTwo = record { fields = (word (codes "gap") (omega arith) refl, (word (codes "2") (omega arith) refl, tt)); goes = λ e. cc; says = refl }
 
@@ -150,58 +154,50 @@ places-numbers p h q k = all_of-map (place_in p) decimal (λ a. a < p.positions)
 number_fields : (p : Problem) → IsProblem p → (q : List ℕ) → ArePositions p q → AreFields (numbers q)
 number_fields p h q k = AreFields-map decimal (λ a. a < p.positions) (λ a lt. IsField-decimal a (omega (arith, h.positions.1))) q k
 
-kind_line : (p : Problem) → IsProblem p → (v : Dialect) (q : List ℕ) (kind : GapKind) → ArePositions p q → length q ≤ most_positions p (prefixes_in v) → IsPrintableKind p (shape_of_kind kind) → IsNarrowNode kind → IsLettered v kind → node_line p v (node_fields q kind) ≡ Ok (record { prefix = q; kind = kind })
-kind_line p h v q (Closed Branch) places short k narrow known = rw (length-map q decimal, le-leb (length q) (most_positions p (prefixes_in v)) short, places-numbers p h q places) refl
-kind_line p h v q (Closed (Whole value)) places short k narrow known =
-    rw (length-map q decimal, le-leb (length q) (most_positions p (prefixes_in v)) short, amount_in-decimal value narrow, places-numbers p h q places) refl
-kind_line p h v q (Closed (Mean bound)) places short k narrow known =
-    rw (length-map q decimal, le-leb (length q) (most_positions p (prefixes_in v)) short, amount_in-decimal bound narrow, places-numbers p h q places) refl
-kind_line p h v q (Closed (Tangent bound reference)) places short k narrow known =
-    let most = most_positions p (prefixes_in v) in
+-- positions behind a number, of which the last are those that a record refers to
+bounded_back : (p : Problem) → IsProblem p → (most long n : ℕ) (q reference : List ℕ) → n < 2 ^ 128 → ArePositions p q → length q ≤ most → ArePositions p reference → length reference ≡ long → bounded_line p most long (decimal n ∷ (numbers q ++ numbers reference)) ≡ Ok (record { bound = n; prefix = q; reference = reference })
+bounded_back p h most long n q reference narrow places short refers all =
     let cells = numbers q ++ numbers reference in
     let own : length (numbers q) ≡ length q = length-map q decimal in
-    let long : length cells ≡ length q + p.horizon = omega (arith, length-append (numbers q) (numbers reference), own, length-map reference decimal, k.1) in
-    let cut : length q + p.horizon - p.horizon ≡ length q = omega arith in
+    let whole : length cells ≡ length q + long = omega (arith, length-append (numbers q) (numbers reference), own, length-map reference decimal, all) in
+    let cut : length q + long - long ≡ length q = omega arith in
     let front : take (length q) cells ≡ numbers q = rw (← own) (take-append_seam (numbers q) (numbers reference)) in
     let back : drop (length q) cells ≡ numbers reference = rw (← own) (drop-append_seam (numbers q) (numbers reference)) in
-    rw (long, le-leb p.horizon (length q + p.horizon) (omega arith), le-leb (length q + p.horizon) (most + p.horizon) (omega (arith, short)), cut, front, back, amount_in-decimal bound narrow, places-numbers p h q places, places-numbers p h reference k.0) refl
-kind_line p h PlanOne q (Closed (Edge bound)) places short k narrow known = absurd known
-kind_line p h PlanTwo q (Closed (Edge bound)) places short k narrow known =
-    rw (length-map q decimal, le-leb (length q) 0 short, amount_in-decimal bound narrow, places-numbers p h q places) refl
-kind_line p h GapOne q (Closed (Edge bound)) places short k narrow known =
-    rw (length-map q decimal, le-leb (length q) 0 short, amount_in-decimal bound narrow, places-numbers p h q places) refl
-kind_line p h GapTwo q (Closed (Edge bound)) places short k narrow known =
-    rw (length-map q decimal, le-leb (length q) 0 short, amount_in-decimal bound narrow, places-numbers p h q places) refl
-kind_line p h PlanOne q (Waiting n) places short k narrow known = absurd known
-kind_line p h PlanTwo q (Waiting n) places short k narrow known = absurd known
-kind_line p h GapOne q (Waiting n) places short k narrow known =
-    rw (length-map q decimal, le-leb (length q) 0 short, amount_in-decimal n narrow, places-numbers p h q places) refl
-kind_line p h GapTwo q (Waiting n) places short k narrow known =
-    rw (length-map q decimal, le-leb (length q) 0 short, amount_in-decimal n narrow, places-numbers p h q places) refl
+    rw (whole, le-leb long (length q + long) (omega arith), le-leb (length q + long) (most + long) (omega (arith, short)), cut, front, back, amount_in-decimal n narrow, places-numbers p h q places, places-numbers p h reference refers) refl
 
--- a record's row has a letter, which isn't `end`, and fields
-kind_row : (p : Problem) → IsProblem p → (q : List ℕ) (kind : GapKind) → ArePositions p q → IsPrintableKind p (shape_of_kind kind) → IsNarrowNode kind → IsRow (node_fields q kind)
-kind_row p h q (Closed Branch) places k narrow = (word (codes "B") (omega arith) refl, number_fields p h q places)
-kind_row p h q (Closed (Whole value)) places k narrow = (word (codes "W") (omega arith) refl, (IsField-decimal value narrow, number_fields p h q places))
-kind_row p h q (Closed (Mean bound)) places k narrow = (word (codes "M") (omega arith) refl, (IsField-decimal bound narrow, number_fields p h q places))
-kind_row p h q (Closed (Tangent bound reference)) places k narrow = (
-  word (codes "T") (omega arith) refl,
-  (IsField-decimal bound narrow, AreFields-append (numbers q) (numbers reference) (number_fields p h q places) (number_fields p h reference k.0)),
-)
-kind_row p h q (Closed (Edge bound)) places k narrow = (word (codes "E") (omega arith) refl, (IsField-decimal bound narrow, number_fields p h q places))
-kind_row p h q (Waiting n) places k narrow = (word (codes "O") (omega arith) refl, (IsField-decimal n narrow, number_fields p h q places))
+-- its row, by its letter
+row_of : (p : Problem) (v : Dialect) (q : List ℕ) (kind : GapKind) → (has : HasNumber p v kind) → node_fields q kind ≡ letter_for has.letter ∷ decimal has.number ∷ (numbers q ++ numbers has.reference)
+row_of p v q kind has = ap (node_fields q) (sym has.is) ∙ numbered_row p has.letter q has.number has.reference has.long
 
+numbered_back : (p : Problem) → IsProblem p → (v : Dialect) (q : List ℕ) (kind : GapKind) → HasNumber p v kind → ArePositions p q → length q ≤ most_positions p (prefixes_in v) → node_line p v (node_fields q kind) ≡ Ok (record { prefix = q; kind = kind })
+numbered_back p h v q kind has places short =
+    ap (node_line p v) (row_of p v q kind has)
+    ∙ letter_line p v has.letter (decimal has.number ∷ (numbers q ++ numbers has.reference)) has.has
+    ∙ ap (node_of has.letter) (bounded_back p h (most_positions p (prefixes_in v)) (referred p has.letter) has.number q has.reference has.narrow places short has.positions has.long)
+    ∙ ap (λ (x : GapKind). Ok (record { prefix = q; kind = x })) has.is
+
+branch_back : (p : Problem) → IsProblem p → (v : Dialect) (q : List ℕ) → ArePositions p q → length q ≤ most_positions p (prefixes_in v) → node_line p v (node_fields q (Closed Branch)) ≡ Ok (record { prefix = q; kind = Closed Branch })
+branch_back p h v q places short = rw (length-map q decimal, le-leb (length q) (most_positions p (prefixes_in v)) short, places-numbers p h q places) refl
+
+kind_line : (p : Problem) → IsProblem p → (v : Dialect) (q : List ℕ) (kind : GapKind) → ArePositions p q → length q ≤ most_positions p (prefixes_in v) → (kind ≡ Closed Branch) ⊎ HasNumber p v kind → node_line p v (node_fields q kind) ≡ Ok (record { prefix = q; kind = kind })
+kind_line p h v q kind places short (inl branch) = subst (λ (x : GapKind). node_line p v (node_fields q x) ≡ Ok (record { prefix = q; kind = x })) (sym branch) (branch_back p h v q places short)
+kind_line p h v q kind places short (inr has) = numbered_back p h v q kind has places short
+
+-- a record's row has a letter and fields
+kind_row : (p : Problem) → IsProblem p → (v : Dialect) (q : List ℕ) (kind : GapKind) → ArePositions p q → (kind ≡ Closed Branch) ⊎ HasNumber p v kind → IsRow (node_fields q kind)
+kind_row p h v q kind places (inl branch) = subst (λ (x : GapKind). IsRow (node_fields q x)) (sym branch) (word (codes "B") (omega arith) refl, number_fields p h q places)
+kind_row p h v q kind places (inr has) =
+    let both = AreFields-append (numbers q) (numbers has.reference) (number_fields p h q places) (number_fields p h has.reference has.positions) in
+    subst IsRow (sym (row_of p v q kind has)) (letter_field has.letter, (IsField-decimal has.number has.narrow, both))
+
+-- and isn't `end`
 not_end : (letter : List ℕ) (fields : List (List ℕ)) → is_word letter (codes "end") ≡ false → is_end (letter ∷ fields) ≡ false
 not_end letter [] other = other
 not_end letter (f ∷ fs) other = refl
 
-kind_goes_on : (q : List ℕ) (kind : GapKind) → is_end (node_fields q kind) ≡ false
-kind_goes_on q (Closed Branch) = not_end (codes "B") (numbers q) refl
-kind_goes_on q (Closed (Whole value)) = refl
-kind_goes_on q (Closed (Mean bound)) = refl
-kind_goes_on q (Closed (Tangent bound reference)) = refl
-kind_goes_on q (Closed (Edge bound)) = refl
-kind_goes_on q (Waiting n) = refl
+kind_goes_on : (p : Problem) (v : Dialect) (q : List ℕ) (kind : GapKind) → (kind ≡ Closed Branch) ⊎ HasNumber p v kind → is_end (node_fields q kind) ≡ false
+kind_goes_on p v q kind (inl branch) = ap (λ (x : GapKind). is_end (node_fields q x)) branch ∙ not_end (codes "B") (numbers q) refl
+kind_goes_on p v q kind (inr has) = ap is_end (row_of p v q kind has)
 
 -- the prefix that a record's line has is right
 written_fits : (p : Problem) (w : Prefixes) (q : List ℕ) → ArePositions p q → length q ≤ p.horizon → ArePositions p (written w q) × (length (written w q) ≤ most_positions p w)
@@ -214,37 +210,33 @@ placed_back p Written expected r has = refl
 placed_back p LeftOut [] r has = absurd has
 placed_back p LeftOut (q ∷ expected) r has = ap (λ (x : List ℕ). Ok (Node (record { prefix = x; kind = r.kind }))) (sym has)
 
-Takes-record : (p : Problem) → IsProblem p → (v : Dialect) (expected : List (List ℕ)) (left : ℕ) (r : GapNode) → IsPrintableRecord p (shape_of r) → IsNarrowNode r.kind → IsLettered v r.kind → HasPlace (prefixes_in v) expected r.prefix → Takes p (at_stage v expected (due.Records (suc left))) (node_row v r) (Node r)
+Takes-record : (p : Problem) → IsProblem p → (v : Dialect) (expected : List (List ℕ)) (left : ℕ) (r : GapNode) → IsPrintableRecord p (shape_of r) → IsNarrowNode r.kind → HasNodeLetter v r.kind → HasPlace (prefixes_in v) expected r.prefix → Takes p (at_stage v expected (due.Records (suc left))) (node_row v r) (Node r)
 Takes-record p h v expected left r k narrow known has =
     let w = prefixes_in v in
     let q = written w r.prefix in
     let fits = written_fits p w r.prefix k.positions k.short in
+    let parts = has_number p v r.kind k.kind narrow known in
     record {
-      fields = kind_row p h q r.kind fits.0 k.kind narrow;
+      fields = kind_row p h v q r.kind fits.0 parts;
       goes = λ e. cc;
-      says = rw (kind_goes_on q r.kind, kind_line p h v q r.kind fits.0 fits.1 k.kind narrow known, ne_eqb (suc left) 0 (λ e. omega arith)) (placed_back p w expected r has);
+      says = rw (kind_goes_on p v q r.kind parts, kind_line p h v q r.kind fits.0 fits.1 parts, ne_eqb (suc left) 0 (λ e. omega arith)) (placed_back p w expected r has);
     }
 
 -- the plan with these nodes
 abbrev with_nodes : GapPlan → List GapNode → GapPlan
 with_nodes plan nodes = record { standing = plan.standing; weight = plan.weight; ceiling = plan.ceiling; numbers = plan.numbers; nodes = nodes }
 
--- these records have the prefixes that are expected, where the text leaves them out
-abbrev HavePlaces : Problem → Prefixes → List (List ℕ) → List GapNode → Type 0
-HavePlaces p Written expected rs = Unit {0}
-HavePlaces p LeftOut expected rs = AreInPlace p expected (map shape_of rs)
-
--- and then none is expected
+-- behind the last record that has its place none is expected
 abbrev IsClosed : Prefixes → List (List ℕ) → Type 0
 IsClosed Written expected = Unit {0}
 IsClosed LeftOut expected = expected ≡ []
 
-first_place : (p : Problem) (w : Prefixes) (expected : List (List ℕ)) (r : GapNode) (rs : List GapNode) → HavePlaces p w expected (r ∷ rs) → HasPlace w expected r.prefix × HavePlaces p w (places_behind p w expected r.kind) rs
+first_place : (p : Problem) (w : Prefixes) (expected : List (List ℕ)) (r : GapNode) (rs : List GapNode) → HavePlaces w p expected (map shape_of (r ∷ rs)) → HasPlace w expected r.prefix × HavePlaces w p (places_behind p w expected r.kind) (map shape_of rs)
 first_place p Written expected r rs h = (tt, tt)
 first_place p LeftOut [] r rs h = absurd h
 first_place p LeftOut (q ∷ expected) r rs h = (h.0, h.1)
 
-no_more : (p : Problem) (w : Prefixes) (expected : List (List ℕ)) → HavePlaces p w expected [] → IsClosed w expected
+no_more : (p : Problem) (w : Prefixes) (expected : List (List ℕ)) → HavePlaces w p expected [] → IsClosed w expected
 no_more p Written expected h = tt
 no_more p LeftOut [] h = refl
 no_more p LeftOut (q ∷ expected) h = absurd h
@@ -254,13 +246,13 @@ abbrev ReadsEnd : Problem → Dialect → GapPlan → List (List (List ℕ)) →
 ReadsEnd p v plan rows whole = (expected : List (List ℕ)) → IsClosed (prefixes_in v) expected → Reads p (at_stage v expected (due.Records 0)) plan rows whole
 
 -- what is left of the records, and the rows behind them
-Reads-records : (p : Problem) → IsProblem p → (v : Dialect) (plan whole : GapPlan) (expected : List (List ℕ)) (done rs : List GapNode) (rows : List (List (List ℕ))) → All (λ r. IsPrintableRecord p (shape_of r)) rs → All (λ r. IsNarrowNode r.kind) rs → All (λ r. IsLettered v r.kind) rs → HavePlaces p (prefixes_in v) expected rs → ReadsEnd p v (with_nodes plan (done ++ rs)) rows whole → Reads p (at_stage v expected (due.Records (length rs))) (with_nodes plan done) (map (node_row v) rs ++ rows) whole
+Reads-records : (p : Problem) → IsProblem p → (v : Dialect) (plan whole : GapPlan) (expected : List (List ℕ)) (done rs : List GapNode) (rows : List (List (List ℕ))) → All (λ r. IsPrintableRecord p (shape_of r)) rs → All (λ r. IsNarrowNode r.kind) rs → All (λ r. HasNodeLetter v r.kind) rs → HavePlaces (prefixes_in v) p expected (map shape_of rs) → ReadsEnd p v (with_nodes plan (done ++ rs)) rows whole → Reads p (at_stage v expected (due.Records (length rs))) (with_nodes plan done) (map (node_row v) rs ++ rows) whole
 Reads-records p h v plan whole expected done [] rows k narrow known places rest =
     subst (λ (records : List GapNode). Reads p (at_stage v expected (due.Records 0)) (with_nodes plan records) rows whole) (append-nil done) (rest expected (no_more p (prefixes_in v) expected places))
 Reads-records p h v plan whole expected done (r ∷ rs) rows k narrow known places rest =
     let P : GapNode → Type 0 = λ x. IsPrintableRecord p (shape_of x) in
     let N : GapNode → Type 0 = λ x. IsNarrowNode x.kind in
-    let L : GapNode → Type 0 = λ x. IsLettered v x.kind in
+    let L : GapNode → Type 0 = λ x. HasNodeLetter v x.kind in
     let less : suc (length rs) - 1 ≡ length rs = omega arith in
     let place = first_place p (prefixes_in v) expected r rs places in
     let later = places_behind p (prefixes_in v) expected r.kind in
@@ -282,22 +274,14 @@ Takes-end p v expected closed = record { fields = (word (codes "end") (omega ari
 abbrev begun_plan : Numbers → GapPlan
 begun_plan n = record { standing = record { path = []; value = 0 }; weight = 0; ceiling = 0; numbers = n; nodes = [] }
 
--- the lines between the path and the number of records
-Reads-chance : (p : Problem) (v : Dialect) (plan whole : GapPlan) (rows : List (List (List ℕ))) → IsHeadOf p v plan.standing plan.weight plan.ceiling →
+-- behind the chance, by whether the text has a ceiling
+Reads-chance : (p : Problem) (v : Dialect) (b : Bool) (plan whole : GapPlan) (rows : List (List (List ℕ))) → has_open v ≡ b → IsHeadOf p v plan.standing plan.weight plan.ceiling →
     Reads p (at_stage v ([] ∷ []) due.Count) (with_nodes plan []) (count_row (length plan.nodes) ∷ rows) whole →
-    Reads p (at_stage v ([] ∷ []) due.Chance) (taken (begun_plan plan.numbers) (Path plan.standing.path)) (chance_row plan.standing.value plan.weight ∷ ((ceiling_rows v plan.ceiling ++ count_row (length plan.nodes) ∷ []) ++ rows)) whole
-Reads-chance p PlanOne plan whole rows head rest =
-    Reads-row p (at_stage PlanOne ([] ∷ []) due.Chance) _ whole (Chance plan.standing.value plan.weight) _ (count_row (length plan.nodes) ∷ rows) (Takes-chance p PlanOne ([] ∷ []) plan.standing.value plan.weight head.chance.value head.chance.weight_small)
-    (subst (λ (c : ℕ). Reads p (at_stage PlanOne ([] ∷ []) due.Count) (record { standing = plan.standing; weight = plan.weight; ceiling = c; numbers = plan.numbers; nodes = [] }) (count_row (length plan.nodes) ∷ rows) whole) head.ceiling_is rest)
-Reads-chance p PlanTwo plan whole rows head rest =
-    Reads-row p (at_stage PlanTwo ([] ∷ []) due.Chance) _ whole (Chance plan.standing.value plan.weight) _ (count_row (length plan.nodes) ∷ rows) (Takes-chance p PlanTwo ([] ∷ []) plan.standing.value plan.weight head.chance.value head.chance.weight_small)
-    (subst (λ (c : ℕ). Reads p (at_stage PlanTwo ([] ∷ []) due.Count) (record { standing = plan.standing; weight = plan.weight; ceiling = c; numbers = plan.numbers; nodes = [] }) (count_row (length plan.nodes) ∷ rows) whole) head.ceiling_is rest)
-Reads-chance p GapOne plan whole rows head rest =
-    Reads-row p (at_stage GapOne ([] ∷ []) due.Chance) _ whole (Chance plan.standing.value plan.weight) _ (ceiling_row plan.ceiling ∷ count_row (length plan.nodes) ∷ rows) (Takes-chance p GapOne ([] ∷ []) plan.standing.value plan.weight head.chance.value head.chance.weight_small)
-    (Reads-row p (at_stage GapOne ([] ∷ []) due.Ceiling) _ whole (Ceiling plan.ceiling) _ (count_row (length plan.nodes) ∷ rows) (Takes-ceiling p GapOne ([] ∷ []) plan.ceiling head.ceiling_is) rest)
-Reads-chance p GapTwo plan whole rows head rest =
-    Reads-row p (at_stage GapTwo ([] ∷ []) due.Chance) _ whole (Chance plan.standing.value plan.weight) _ (ceiling_row plan.ceiling ∷ count_row (length plan.nodes) ∷ rows) (Takes-chance p GapTwo ([] ∷ []) plan.standing.value plan.weight head.chance.value head.chance.weight_small)
-    (Reads-row p (at_stage GapTwo ([] ∷ []) due.Ceiling) _ whole (Ceiling plan.ceiling) _ (count_row (length plan.nodes) ∷ rows) (Takes-ceiling p GapTwo ([] ∷ []) plan.ceiling head.ceiling_is) rest)
+    Reads p (at_stage v ([] ∷ []) (cond b due.Ceiling due.Count)) (taken (taken (begun_plan plan.numbers) (Path plan.standing.path)) (Chance plan.standing.value plan.weight)) ((cond b (ceiling_row plan.ceiling ∷ []) [] ++ count_row (length plan.nodes) ∷ []) ++ rows) whole
+Reads-chance p v true plan whole rows e head rest =
+    Reads-row p (at_stage v ([] ∷ []) due.Ceiling) _ whole (Ceiling plan.ceiling) _ (count_row (length plan.nodes) ∷ rows) (Takes-ceiling p v ([] ∷ []) plan.ceiling (ceiling_read v true plan.standing.value plan.ceiling e head.ceiling_is)) rest
+Reads-chance p v false plan whole rows e head rest =
+    subst (λ (c : ℕ). Reads p (at_stage v ([] ∷ []) due.Count) (record { standing = plan.standing; weight = plan.weight; ceiling = c; numbers = plan.numbers; nodes = [] }) (count_row (length plan.nodes) ∷ rows) whole) (ceiling_read v false plan.standing.value plan.ceiling e head.ceiling_is) rest
 
 -- a gap plan that has a text of this dialect
 pub record HasText (p : Problem) (v : Dialect) (plan : GapPlan) : Type 0 where
@@ -306,8 +290,8 @@ pub record HasText (p : Problem) (v : Dialect) (plan : GapPlan) : Type 0 where
   pub few : length plan.nodes ≤ most_records (family_of v)
   pub printable : All (λ r. IsPrintableRecord p (shape_of r)) plan.nodes
   pub narrow : All (λ r. IsNarrowNode r.kind) plan.nodes
-  pub known : All (λ r. IsLettered v r.kind) plan.nodes
-  pub places : HavePlaces p (prefixes_in v) ([] ∷ []) plan.nodes
+  pub known : All (λ r. HasNodeLetter v r.kind) plan.nodes
+  pub places : HavePlaces (prefixes_in v) p ([] ∷ []) (map shape_of plan.nodes)
 
 text_reads_back : (p : Problem) (v : Dialect) (plan : GapPlan) → IsProblem p → HasText p v plan → text_at (family_of v) p (text_in v p plan) ≡ Ok plan
 text_reads_back p v plan h k =
@@ -320,7 +304,8 @@ text_reads_back p v plan h k =
     Reads-row p (at_stage v expected (due.Records 0)) plan plan End (codes "end" ∷ []) [] (Takes-end p v expected closed) (Reads-none p (at_stage v expected due.Ended) plan refl) in
     let records = Reads-records p h v plan plan empty [] plan.nodes end k.printable k.narrow k.known k.places last in
     let count = Reads-row p (at_stage v empty due.Count) (with_nodes plan []) plan (Count (length plan.nodes)) _ record_rows (Takes-count p v empty (length plan.nodes) k.few) records in
-    let chance = Reads-chance p v plan plan record_rows k.head count in
+    let above = (ceiling_rows v plan.ceiling ++ count_row (length plan.nodes) ∷ []) ++ record_rows in
+    let chance = Reads-row p (at_stage v empty due.Chance) (taken (begun_plan plan.numbers) (Path plan.standing.path)) plan (Chance plan.standing.value plan.weight) _ above (Takes-chance p v empty plan.standing.value plan.weight k.head.chance.value k.head.chance.weight_small) (Reads-chance p v (has_open v) plan plan record_rows refl k.head count) in
     let path = Reads-row p (at_stage v empty due.Path) (begun_plan plan.numbers) plan (Path plan.standing.path) _ chance_rows (Takes-path p h v empty plan.standing.path k.head.chance.path) chance in
     let begun = subst (λ (n : Numbers). Reads p (at_stage v empty due.Path) (begun_plan n) path_rows plan) k.numbers path in
     let read = Reads-row p (at_start (family_of v)) blank_plan plan (Version v) (version_row v) path_rows (Takes-version p v) begun in
@@ -330,8 +315,8 @@ text_reads_back p v plan h k =
 
 -- A plan is the plan of its gap plan.
 
-plan_of_gap : (plan : Plan) → plan_of (gap_of Means plan) ≡ plan
-plan_of_gap plan = ap (λ (tree : List TreeNode). record { standing = plan.standing; weight = plan.weight; tree = tree }) (shapes_of_closed plan.tree)
+plan_of_gap : (n : Numbers) (plan : Plan) → plan_of (gap_of n plan) ≡ plan
+plan_of_gap n plan = ap (λ (tree : List TreeNode). record { standing = plan.standing; weight = plan.weight; tree = tree }) (shapes_of_closed plan.tree)
 
 chance_has_text : (p : Problem) (plan : Plan) → IsPrintable p plan → IsNarrow plan → IsChanceOf p plan.standing plan.weight
 chance_has_text p plan k narrow = record { path = record { positions = k.positions; some = k.some; short = k.short }; value = narrow.value; weight_small = narrow.weight }
@@ -339,33 +324,32 @@ chance_has_text p plan k narrow = record { path = record { positions = k.positio
 few_has_text : (v : Dialect) (tree : List TreeNode) → family_of v ≡ Plans → length tree ≤ most_records Plans → length (map closed_node tree) ≤ most_records (family_of v)
 few_has_text v tree e few = subst (λ (family : Family). length (map closed_node tree) ≤ most_records family) (sym e) (let long = length-map tree closed_node in omega (arith, few, long))
 
--- a plan that can be printed has a text of a dialect that has letters for its records
-plan_has_text : (p : Problem) (v : Dialect) (plan : Plan) → IsPrintable p plan → IsNarrow plan → family_of v ≡ Plans → Means ≡ numbers_in v → IsCeiling v plan.standing.value plan.standing.value → All (λ r. IsLettered v (Closed r.kind)) plan.tree → HavePlaces p (prefixes_in v) ([] ∷ []) (map closed_node plan.tree) → HasText p v (gap_of Means plan)
-plan_has_text p v plan k narrow e numbers ceiling known places = record {
-  numbers = numbers;
-  head = record { chance = chance_has_text p plan k narrow; ceiling_is = ceiling };
-  few = few_has_text v plan.tree e k.few;
-  printable = All-map (λ (r : GapNode). IsPrintableRecord p (shape_of r)) closed_node plan.tree k.records;
-  narrow = All-map (λ (r : GapNode). IsNarrowNode r.kind) closed_node plan.tree narrow.records;
-  known = All-map (λ (r : GapNode). IsLettered v r.kind) closed_node plan.tree known;
-  places = places;
+-- a plan that has a text of a dialect of plans has it as a gap plan
+plan_has_text : (p : Problem) (v : Dialect) (plan : Plan) (text : List ℕ) → family_of v ≡ Plans → IsPlanTextIn v p plan text → HasText p v (gap_of (numbers_in v) plan)
+plan_has_text p v plan text e is = record {
+  numbers = refl;
+  head = record { chance = chance_has_text p plan is.printable is.narrow; ceiling_is = ceiling_is_read v false plan.standing.value plan.standing.value (none_waits v e) refl };
+  few = few_has_text v plan.tree e is.printable.few;
+  printable = All-map (λ (r : GapNode). IsPrintableRecord p (shape_of r)) closed_node plan.tree is.printable.records;
+  narrow = All-map (λ (r : GapNode). IsNarrowNode r.kind) closed_node plan.tree is.narrow.records;
+  known = All-map (λ (r : GapNode). HasNodeLetter v r.kind) closed_node plan.tree is.letters;
+  places = subst (HavePlaces (prefixes_in v) p ([] ∷ [])) (sym (shapes_of_closed plan.tree)) is.in_place;
 }
 
 -- it is read as the gap plan of its records
-closed_reads_back : (p : Problem) (plan : Plan) → IsProblem p → IsPrintable p plan → IsNarrow plan → HasNoEdge plan → text_at Plans p (plan_text p plan) ≡ Ok (gap_of Means plan)
-closed_reads_back p plan h k narrow no_edge = text_reads_back p PlanOne (gap_of Means plan) h (plan_has_text p PlanOne plan k narrow refl refl refl no_edge tt)
+closed_read : (p : Problem) → IsProblem p → (plan : Plan) (text : List ℕ) → IsTextOfPlan p plan text → text_at Plans p text ≡ Ok (gap_of Means plan)
+closed_read p h plan text (v, plans, is) =
+    let whole = gap_of (numbers_in v) plan in
+    ap (text_at Plans p) is.spelled
+    ∙ subst (λ (family : Family). text_at family p (text_in v p whole) ≡ Ok whole) plans (text_reads_back p v whole h (plan_has_text p v plan text plans is))
+    ∙ ap (λ (n : Numbers). Ok (gap_of n plan)) (sym (numbers_back v plans))
 
-closed_2_reads_back : (p : Problem) (plan : Plan) → IsProblem p → IsPrintable p plan → IsNarrow plan → AreInPlace p ([] ∷ []) plan.tree → text_at Plans p (plan_text_2 p plan) ≡ Ok (gap_of Means plan)
-closed_2_reads_back p plan h k narrow places =
-    let known = All-weaker (IsPrintableRecord p) (λ (r : TreeNode). IsLettered PlanTwo (Closed r.kind)) (λ r _. tt) plan.tree k.records in
-    let here = subst (AreInPlace p ([] ∷ [])) (sym (shapes_of_closed plan.tree)) places in
-    text_reads_back p PlanTwo (gap_of Means plan) h (plan_has_text p PlanTwo plan k narrow refl refl refl known here)
+-- and so as that plan
+pub text_read : (p : Problem) → IsProblem p → (plan : Plan) (text : List ℕ) → IsTextOfPlan p plan text → plan_at p text ≡ Ok plan
+text_read p h plan text spelled = ap as_plan (closed_read p h plan text spelled) ∙ ap Ok (plan_of_gap Means plan)
 
 pub plan_text_reads_back : PlanTextReadsBack
-plan_text_reads_back p plan h k narrow no_edge = ap as_plan (closed_reads_back p plan h k narrow no_edge) ∙ ap Ok (plan_of_gap plan)
-
-pub plan_text_2_reads_back : PlanText2ReadsBack
-plan_text_2_reads_back p plan h k narrow places = ap as_plan (closed_2_reads_back p plan h k narrow places) ∙ ap Ok (plan_of_gap plan)
+plan_text_reads_back p plan text h spelled = text_read p h plan text spelled
 
 -- nodes that have the prefixes that are expected can be printed, where these are legal
 placed_printable : (p : Problem) → IsProblem p → (nodes : List GapNode) (qs : List (List ℕ)) → All (IsLegal p) qs → AreInPlace p qs (map shape_of nodes) → All (λ r. IsPrintableKind p (shape_of r).kind) nodes → All (λ r. IsPrintableRecord p (shape_of r)) nodes
@@ -393,7 +377,7 @@ gap_has_text p plan Means e k narrow places printable = record {
   few = k.few;
   printable = printable;
   narrow = narrow.nodes;
-  known = All-weaker (λ (r : GapNode). IsPrintableRecord p (shape_of r)) (λ (r : GapNode). IsLettered GapOne r.kind) (λ r _. tt) plan.nodes printable;
+  known = subst (λ (m : Numbers). All (λ (r : GapNode). HasNodeLetter (dialect_with m) r.kind) plan.nodes) e k.letters;
   places = places;
 }
 gap_has_text p plan Edges e k narrow places printable = record {
@@ -402,7 +386,7 @@ gap_has_text p plan Edges e k narrow places printable = record {
   few = k.few;
   printable = printable;
   narrow = narrow.nodes;
-  known = All-weaker (λ (r : GapNode). IsPrintableRecord p (shape_of r)) (λ (r : GapNode). IsLettered GapTwo r.kind) (λ r _. tt) plan.nodes printable;
+  known = subst (λ (m : Numbers). All (λ (r : GapNode). HasNodeLetter (dialect_with m) r.kind) plan.nodes) e k.letters;
   places = places;
 }
 
@@ -416,20 +400,6 @@ gap_text_reads_back p plan h k narrow places =
     let v = dialect_with plan.numbers in
     subst (λ (family : Family). text_at family p (text_in v p plan) ≡ Ok plan) (gap_family plan.numbers)
     (text_reads_back p v plan h (gap_has_text p plan plan.numbers refl k narrow places printable))
-
--- the text of a plan in either version is read as that plan
-pub text_read : (p : Problem) → IsProblem p → (plan : Plan) (text : List ℕ) → IsTextOfPlan p plan text → plan_at p text ≡ Ok plan
-text_read p h plan text spelled = elim spelled [
-  | inl one ↦ ap (plan_at p) one.spelled ∙ plan_text_reads_back p plan h one.printable one.narrow one.no_edge
-  | inr two ↦ ap (plan_at p) two.spelled ∙ plan_text_2_reads_back p plan h two.printable two.narrow two.in_place
-]
-
--- what the text of a plan is read as is the gap plan of its records
-closed_read : (p : Problem) → IsProblem p → (plan : Plan) (text : List ℕ) → IsTextOfPlan p plan text → text_at Plans p text ≡ Ok (gap_of Means plan)
-closed_read p h plan text spelled = elim spelled [
-  | inl one ↦ ap (text_at Plans p) one.spelled ∙ closed_reads_back p plan h one.printable one.narrow one.no_edge
-  | inr two ↦ ap (text_at Plans p) two.spelled ∙ closed_2_reads_back p plan h two.printable two.narrow two.in_place
-]
 
 pub read_is_closed : (p : Problem) → IsProblem p → (plan : GapPlan) (text : List ℕ) → IsTextOfPlan p (plan_of plan) text → text_at Plans p text ≡ Ok plan → gap_of Means (plan_of plan) ≡ plan
 read_is_closed p h plan text spelled reads =

@@ -1,21 +1,21 @@
 -- The text of a plan or of a gap plan is the same for problems that are the same search.
-use Rattle.std.proofs.Common.{ℕ, ◌≡◌, List, [], ◌∷◌, map, inl, inr, refl, ap, ◌∙◌}
+use Rattle.std.proofs.Common.{ℕ, ◌≡◌, List, [], ◌∷◌, map, refl, ap, ◌∙◌}
 use Rattle.std.proofs.lemmas.List.Elements.{All-weaker}
 use Rattle.search_model.specs.Problem.{Problem, position_name}
 use Rattle.search_model.specs.Same.{AreSame}
 use Rattle.search_model.specs.Names.{name_in}
 use Rattle.bound_tree.specs.declared.node.Kind.{Kind}
-use Rattle.bound_tree.specs.declared.node.Kind.TheVariants.{Branch, Whole, Mean, Tangent, Edge}
+use Rattle.bound_tree.specs.declared.node.Kind.TheVariants.{Branch, Whole, Mean, Tangent, Edge, Exchange}
 use Rattle.bound_tree.specs.declared.node.TreeNode.{TreeNode}
 use Rattle.bound_tree.specs.declared.plan.Plan.{Plan}
-use Rattle.bound_tree.specs.declared.gap.Numbers.TheVariants.{Means}
 use Rattle.bound_tree.specs.declared.gap.GapPlan.{GapPlan}
 use Rattle.bound_tree.specs.Gaps.{shape_of, gap_of}
 use Rattle.bound_tree.proofs.SamePlans.{in_place_same}
 use Rattle.tree_format.specs.declared.plan_line.Dialect.{Dialect}
-use Rattle.tree_format.specs.declared.plan_line.Dialect.TheVariants.{PlanOne, PlanTwo}
-use Rattle.tree_format.specs.Dialects.{dialect_with}
-use Rattle.tree_format.specs.PlanText.{text_in, ArePositions, IsPrintableKind, IsPrintableRecord, IsPrintable, IsTextOfPlan, IsPrintableGap, IsGapText}
+use Rattle.tree_format.specs.declared.plan_line.Prefixes.{Prefixes}
+use Rattle.tree_format.specs.declared.plan_line.Prefixes.TheVariants.{Written, LeftOut}
+use Rattle.tree_format.specs.Dialects.{prefixes_in, numbers_in, dialect_with}
+use Rattle.tree_format.specs.PlanText.{text_in, ArePositions, IsPrintableKind, IsPrintableRecord, IsPrintable, HavePlaces, IsPlanTextIn, IsTextOfPlan, IsPrintableGap, IsGapText}
 use Rattle.tree_format.specs.TextLaws.{SameSearchSameTexts, SameSearchSameGapText}
 
 module _ (p o : Problem) (same : AreSame p o) where
@@ -28,6 +28,7 @@ module _ (p o : Problem) (same : AreSame p o) where
   kind_same (Mean b) printable = printable
   kind_same (Tangent b reference) printable = (places_same reference printable.0, printable.1 ∙ same.horizon)
   kind_same (Edge b) printable = printable
+  kind_same (Exchange b u) printable = rw (← same.positions) printable
 
   record_same : (r : TreeNode) → IsPrintableRecord p r → IsPrintableRecord o r
   record_same r printable = record { positions = places_same r.prefix printable.positions; short = rw (← same.horizon) printable.short; kind = kind_same r.kind printable.kind }
@@ -47,14 +48,21 @@ module _ (p o : Problem) (same : AreSame p o) where
       let names : map (position_name p) plan.standing.path ≡ map (position_name o) plan.standing.path = ap (λ (all : List (List ℕ)). map (name_in all) plan.standing.path) same.position_names in
       rw names refl
 
+  have_places_same : (w : Prefixes) (expected : List (List ℕ)) (records : List TreeNode) → HavePlaces w p expected records → HavePlaces w o expected records
+  have_places_same Written expected records placed = tt
+  have_places_same LeftOut expected records placed = in_place_same p o same expected records placed
+
+  text_in_same : (v : Dialect) (plan : Plan) (text : List ℕ) → IsPlanTextIn v p plan text → IsPlanTextIn v o plan text
+  text_in_same v plan text is = record {
+    printable = plan_same plan is.printable;
+    narrow = is.narrow;
+    letters = is.letters;
+    in_place = have_places_same (prefixes_in v) ([] ∷ []) plan.tree is.in_place;
+    spelled = is.spelled ∙ text_same v (gap_of (numbers_in v) plan);
+  }
+
   plan_text_same : (plan : Plan) (text : List ℕ) → IsTextOfPlan p plan text → IsTextOfPlan o plan text
-  plan_text_same plan text (inl one) = inl (record { printable = plan_same plan one.printable; narrow = one.narrow; no_edge = one.no_edge; spelled = one.spelled ∙ text_same PlanOne (gap_of Means plan) })
-  plan_text_same plan text (inr two) = inr (record {
-    printable = plan_same plan two.printable;
-    narrow = two.narrow;
-    in_place = in_place_same p o same ([] ∷ []) plan.tree two.in_place;
-    spelled = two.spelled ∙ text_same PlanTwo (gap_of Means plan);
-  })
+  plan_text_same plan text (v, plans, is) = (v, plans, text_in_same v plan text is)
 
   gap_same : (plan : GapPlan) → IsPrintableGap p plan → IsPrintableGap o plan
   gap_same plan printable = record {
@@ -63,6 +71,7 @@ module _ (p o : Problem) (same : AreSame p o) where
     positions = places_same plan.standing.path printable.positions;
     few = printable.few;
     kinds = All-weaker (λ node. IsPrintableKind p (shape_of node).kind) (λ node. IsPrintableKind o (shape_of node).kind) (λ node printable. kind_same (shape_of node).kind printable) plan.nodes printable.kinds;
+    letters = printable.letters;
   }
 
   gap_text_same : (plan : GapPlan) (text : List ℕ) → IsGapText p plan text → IsGapText o plan text

@@ -1,5 +1,5 @@
 -- What is read as a plan is the text of that plan.
-use Rattle.std.proofs.Common.{◌≡◌, ℕ, ◌<◌, ◌≤◌, ◌+◌, ◌-◌, ◌^◌, true, List, [], ◌∷◌, ◌++◌, map, length, Result, Ok, Err, refl, sym, ap, subst, ◌∙◌, arith, append_assoc, length-append, inl, inr}
+use Rattle.std.proofs.Common.{◌≡◌, ℕ, ◌<◌, ◌≤◌, ◌+◌, ◌-◌, ◌^◌, Bool, true, false, cond, List, [], ◌∷◌, ◌++◌, map, length, Result, Ok, Err, refl, sym, ap, subst, ◌∙◌, arith, append_assoc, length-append, inl, inr}
 use Rattle.std.specs.Prelude.{All, codes}
 use Rattle.std.proofs.lemmas.Bool.{cond_both}
 use Rattle.std.proofs.lemmas.List.{append-nil, map-append, length-map}
@@ -33,7 +33,7 @@ use Rattle.tree_format.specs.declared.kind.PlanKind.TheVariants.{BadLine, Rest}
 use Rattle.tree_format.specs.declared.kind.PlanFault.{PlanFault}
 use Rattle.tree_format.specs.declared.due.Due.{Due}
 use Rattle.tree_format.specs.declared.plan_line.Dialect.{Dialect}
-use Rattle.tree_format.specs.declared.plan_line.Dialect.TheVariants.{PlanOne, PlanTwo, GapOne, GapTwo}
+use Rattle.tree_format.specs.declared.plan_line.Dialect.TheVariants.{PlanOne, PlanTwo, PlanThree, GapOne, GapTwo}
 use Rattle.tree_format.specs.declared.plan_line.Family.{Family}
 use Rattle.tree_format.specs.declared.plan_line.Family.TheVariants.{Plans, Gaps}
 use Rattle.tree_format.specs.declared.plan_line.Prefixes.{Prefixes}
@@ -43,11 +43,12 @@ use Rattle.tree_format.specs.declared.plan_line.Stage.{Stage}
 use Rattle.tree_format.specs.declared.plan_line.Stage.TheVariants as due
 use Rattle.tree_format.specs.declared.plan_line.PlanLine.{PlanLine}
 use Rattle.tree_format.specs.declared.plan_line.PlanLine.TheVariants.{Version, Path, Chance, Ceiling, Count, Node, End}
-use Rattle.tree_format.specs.PlanText.{node_row, path_rows, chance_row, ceiling_row, ceiling_rows, head_rows, plan_rows, text_in, ArePositions, IsPrintableKind, IsPrintableRecord, IsPrintable, IsNarrowKind, IsNarrow, IsNoEdge, IsTextOfPlan, IsNarrowNode, IsGapText}
-use Rattle.tree_format.specs.Reading.{line_at, stage_line, places_behind, behind_chance, next, taken, at_line_number, Progress, unread, behind, plan_lines, front_of, unless_more, alone, text_at, as_plan}
+use Rattle.tree_format.specs.PlanText.{node_row, path_rows, chance_row, ceiling_rows, head_rows, plan_rows, text_in, ArePositions, IsPrintableKind, IsPrintableRecord, IsPrintable, IsNarrowKind, IsNarrow, HasLetter, HasNodeLetter, HavePlaces, IsTextOfPlan, IsNarrowNode, IsGapText}
+use Rattle.tree_format.specs.Reading.{line_at, stage_line, places_behind, next, taken, at_line_number, Progress, unread, behind, plan_lines, front_of, unless_more, alone, text_at, as_plan}
 use Rattle.tree_format.specs.ReadingLaws.{OneTextAPlan, OneTextAGap}
+use Rattle.tree_format.proofs.Families.{none_waits, numbers_back, no_ceiling, ceiling_written, IsCeiling, ceiling_read, ceiling_is_read}
 use Rattle.tree_format.proofs.AtLines.{ended_stage}
-use Rattle.tree_format.proofs.SpelledLines.{IsVersionLine, version_told, IsPathLine, path_told, IsChanceLine, chance_told, IsCeilingLine, ceiling_told, IsCountLine, count_told, IsLettered, HasPlace, IsRecordLine, record_printable, IsEndLine, record_told}
+use Rattle.tree_format.proofs.SpelledLines.{IsVersionLine, version_told, IsPathLine, path_told, IsChanceLine, chance_told, IsCeilingLine, ceiling_told, IsCountLine, count_told, HasPlace, IsRecordLine, record_printable, IsEndLine, record_told}
 use Rattle.text_rows.proofs.Splits.{split_joined}
 
 -- the rows of the lines that were read
@@ -65,13 +66,6 @@ pub record IsPathOf (p : Problem) (q : List ℕ) : Type 0 where
   pub positions : ArePositions p q
   pub some : 1 ≤ length q
   pub short : length q ≤ 32
-
--- the ceiling is the value where no line says it
-abbrev pub IsCeiling : Dialect → ℕ → ℕ → Type 0
-IsCeiling PlanOne value ceiling = ceiling ≡ value
-IsCeiling PlanTwo value ceiling = ceiling ≡ value
-IsCeiling GapOne value ceiling = ceiling < 2 ^ 128
-IsCeiling GapTwo value ceiling = ceiling < 2 ^ 128
 
 pub record IsChanceOf (p : Problem) (s : Standing) (weight : ℕ) : Type 0 where
   pub path : IsPathOf p s.path
@@ -91,7 +85,7 @@ pub record IsTreeOf (p : Problem) (v : Dialect) (expected : List (List ℕ)) (le
   pub few : length nodes + left ≤ most_records (family_of v)
   pub printable : All (λ r. IsPrintableRecord p (shape_of r)) nodes
   pub narrow : All (λ r. IsNarrowNode r.kind) nodes
-  pub lettered : All (λ r. IsLettered v r.kind) nodes
+  pub lettered : All (λ r. HasNodeLetter v r.kind) nodes
   pub legal : All (IsLegal p) expected
   pub placed : IsPlaced p (prefixes_in v) expected nodes
 
@@ -175,23 +169,17 @@ pub record IsReadOn (p : Problem) (d : Due) (plan : GapPlan) (fields : List (Lis
   pub family : family_due (next p d said) ≡ family_due d
 
 -- behind the chance, by whether the text has a ceiling
-chance_rows : (p : Problem) (v : Dialect) (plan : GapPlan) (value weight : ℕ) → rows_read p v (behind_chance v) (taken plan (Chance value weight)) ≡ path_rows v p plan.standing.path ++ chance_row value weight ∷ []
-chance_rows p PlanOne plan value weight = refl
-chance_rows p PlanTwo plan value weight = refl
-chance_rows p GapOne plan value weight = refl
-chance_rows p GapTwo plan value weight = refl
+chance_rows : (p : Problem) (v : Dialect) (b : Bool) (plan : GapPlan) (value weight : ℕ) → has_open v ≡ b → rows_read p v (cond b due.Ceiling due.Count) (taken plan (Chance value weight)) ≡ path_rows v p plan.standing.path ++ chance_row value weight ∷ []
+chance_rows p v true plan value weight e = refl
+chance_rows p v false plan value weight e = ap (λ (above : List (List (List ℕ))). path_rows v p plan.standing.path ++ (chance_row value weight ∷ above)) (no_ceiling v value e)
 
-chance_read : (p : Problem) (v : Dialect) (expected : List (List ℕ)) (plan : GapPlan) (value weight : ℕ) → IsChanceOf p (record { path = plan.standing.path; value = value }) weight → IsUntouched expected plan → IsReadAt p v expected (behind_chance v) (taken plan (Chance value weight))
-chance_read p PlanOne expected plan value weight chance untouched = (record { chance = chance; ceiling_is = refl }, untouched)
-chance_read p PlanTwo expected plan value weight chance untouched = (record { chance = chance; ceiling_is = refl }, untouched)
-chance_read p GapOne expected plan value weight chance untouched = (chance, refl, untouched)
-chance_read p GapTwo expected plan value weight chance untouched = (chance, refl, untouched)
+chance_read : (p : Problem) (v : Dialect) (b : Bool) (expected : List (List ℕ)) (plan : GapPlan) (value weight : ℕ) → has_open v ≡ b → IsChanceOf p (record { path = plan.standing.path; value = value }) weight → IsUntouched expected plan → IsReadAt p v expected (cond b due.Ceiling due.Count) (taken plan (Chance value weight))
+chance_read p v true expected plan value weight e chance untouched = (chance, e, untouched)
+chance_read p v false expected plan value weight e chance untouched = (record { chance = chance; ceiling_is = ceiling_is_read v false value value e refl }, untouched)
 
-chance_family : (v : Dialect) → family_at v (behind_chance v) ≡ family_of v
-chance_family PlanOne = refl
-chance_family PlanTwo = refl
-chance_family GapOne = refl
-chance_family GapTwo = refl
+chance_family : (v : Dialect) (b : Bool) → family_at v (cond b due.Ceiling due.Count) ≡ family_of v
+chance_family v true = refl
+chance_family v false = refl
 
 module _ (p : Problem) (h : IsProblem p) (v : Dialect) (expected : List (List ℕ)) (plan : GapPlan) (fields : List (List ℕ)) (said : PlanLine) where
   abbrev at_stage : Stage → Due
@@ -212,9 +200,9 @@ module _ (p : Problem) (h : IsProblem p) (v : Dialect) (expected : List (List �
   chance_on : IsRead p (at_stage due.Chance) plan → IsChanceLine fields said → IsReadOn p (at_stage due.Chance) plan fields said
   chance_on read told =
       subst (IsReadOn p (at_stage due.Chance) plan fields) (sym told.is) (record {
-        rows = chance_rows p v plan told.value told.weight ∙ ap (λ (row : List (List ℕ)). path_rows v p plan.standing.path ++ row ∷ []) (sym told.row);
-        read = chance_read p v expected plan told.value told.weight (record { path = read.0; value = told.narrow; weight_small = told.narrow_weight }) read.1;
-        family = chance_family v;
+        rows = chance_rows p v (has_open v) plan told.value told.weight refl ∙ ap (λ (row : List (List ℕ)). path_rows v p plan.standing.path ++ row ∷ []) (sym told.row);
+        read = chance_read p v (has_open v) expected plan told.value told.weight refl (record { path = read.0; value = told.narrow; weight_small = told.narrow_weight }) read.1;
+        family = chance_family v (has_open v);
       })
 
   count_on : IsRead p (at_stage due.Count) plan → IsCountLine (most_records (family_of v)) fields said → IsReadOn p (at_stage due.Count) plan fields said
@@ -228,7 +216,7 @@ module _ (p : Problem) (h : IsProblem p) (v : Dialect) (expected : List (List �
         few = omega (arith, told.few);
         printable = All-nil (λ (r : GapNode). IsPrintableRecord p (shape_of r));
         narrow = All-nil (λ (r : GapNode). IsNarrowNode r.kind);
-        lettered = All-nil (λ (r : GapNode). IsLettered v r.kind);
+        lettered = All-nil (λ (r : GapNode). HasNodeLetter v r.kind);
         legal = empty_legal p expected empty;
         placed = placed_nothing p (prefixes_in v) expected empty;
       } in
@@ -258,7 +246,7 @@ module _ (p : Problem) (h : IsProblem p) (v : Dialect) (expected : List (List �
             few = omega (arith, long, tree.few);
             printable = All-push (λ (x : GapNode). IsPrintableRecord p (shape_of x)) plan.nodes r tree.printable (record_printable p h v left expected fields said tree.legal told);
             narrow = All-push (λ (x : GapNode). IsNarrowNode x.kind) plan.nodes r tree.narrow told.narrow;
-            lettered = All-push (λ (x : GapNode). IsLettered v x.kind) plan.nodes r tree.lettered told.lettered;
+            lettered = All-push (λ (x : GapNode). HasNodeLetter v x.kind) plan.nodes r tree.lettered told.lettered;
             legal = legal_on p (prefixes_in v) expected r.kind tree.legal;
             placed = placed_on p (prefixes_in v) expected plan.nodes r told.place tree.placed;
           },
@@ -285,21 +273,12 @@ module _ (p : Problem) (h : IsProblem p) (v : Dialect) (expected : List (List �
 
 -- the line `ceiling N`
 
-ceiling_written : (v : Dialect) (ceiling : ℕ) → has_open v ≡ true → ceiling_rows v ceiling ≡ ceiling_row ceiling ∷ []
-ceiling_written v ceiling has = rw has refl
-
-ceiling_said_so : (v : Dialect) (value ceiling : ℕ) → has_open v ≡ true → ceiling < 2 ^ 128 → IsCeiling v value ceiling
-ceiling_said_so PlanOne value ceiling has narrow = absurd (let bad : ⊥ = cc in bad)
-ceiling_said_so PlanTwo value ceiling has narrow = absurd (let bad : ⊥ = cc in bad)
-ceiling_said_so GapOne value ceiling has narrow = narrow
-ceiling_said_so GapTwo value ceiling has narrow = narrow
-
 ceiling_on : (p : Problem) (v : Dialect) (expected : List (List ℕ)) (plan : GapPlan) (fields : List (List ℕ)) (said : PlanLine) → IsReadAt p v expected due.Ceiling plan → IsCeilingLine fields said → IsReadOn p (record { dialect = v; stage = due.Ceiling; expected = expected }) plan fields said
 ceiling_on p v expected plan fields said read told =
     let above : List (List (List ℕ)) → List (List (List ℕ)) = λ rows. path_rows v p plan.standing.path ++ (chance_row plan.standing.value plan.weight ∷ rows) in
     subst (IsReadOn p (record { dialect = v; stage = due.Ceiling; expected = expected }) plan fields) (sym told.is) (record {
       rows = ap above (ceiling_written v told.ceiling read.1) ∙ ap (λ (row : List (List ℕ)). above (row ∷ [])) (sym told.row);
-      read = (record { chance = read.0; ceiling_is = ceiling_said_so v plan.standing.value told.ceiling read.1 told.narrow }, read.2);
+      read = (record { chance = read.0; ceiling_is = ceiling_is_read v true plan.standing.value told.ceiling read.1 told.narrow }, read.2);
       family = refl;
     })
 
@@ -409,36 +388,20 @@ front_told family p h text whole (Ok front) e alone_is =
     subst (IsWhole p family text) none.1 (whole_read p family text front.state (ended_stage front.state.due.stage read.ends) on.read (numbers_on p read.read (unread family) front.state refl read.right) on.family (spelled ∙ sym on.rows))
 
 -- what was read as a text of plans is the gap plan of a plan
-kind_back : (v : Dialect) (kind : GapKind) → family_of v ≡ Plans → IsLettered v kind → Closed (shape_of_kind kind) ≡ kind
-kind_back PlanOne (Closed kind) e known = refl
-kind_back PlanOne (Waiting n) e known = absurd known
-kind_back PlanTwo (Closed kind) e known = refl
-kind_back PlanTwo (Waiting n) e known = absurd known
-kind_back GapOne kind e known = absurd (let bad : ⊥ = cc in bad)
-kind_back GapTwo kind e known = absurd (let bad : ⊥ = cc in bad)
+kind_back : (v : Dialect) (kind : GapKind) → family_of v ≡ Plans → HasNodeLetter v kind → Closed (shape_of_kind kind) ≡ kind
+kind_back v (Closed kind) e known = refl
+kind_back v (Waiting n) e known = absurd (let never : has_open v ≡ false = none_waits v e in let bad : ⊥ = cc in bad)
 
-nodes_back : (v : Dialect) (nodes : List GapNode) → family_of v ≡ Plans → All (λ r. IsLettered v r.kind) nodes → map closed_node (map shape_of nodes) ≡ nodes
+nodes_back : (v : Dialect) (nodes : List GapNode) → family_of v ≡ Plans → All (λ r. HasNodeLetter v r.kind) nodes → map closed_node (map shape_of nodes) ≡ nodes
 nodes_back v [] e known = refl
 nodes_back v (r ∷ nodes) e known =
-    let L : GapNode → Type 0 = λ x. IsLettered v x.kind in
+    let L : GapNode → Type 0 = λ x. HasNodeLetter v x.kind in
     let here : closed_node (shape_of r) ≡ r = ap (λ (k : GapKind). record { prefix = r.prefix; kind = k }) (kind_back v r.kind e (All-head L r nodes known)) in
     ap (λ (x : GapNode). x ∷ map closed_node (map shape_of nodes)) here ∙ ap (λ (xs : List GapNode). r ∷ xs) (nodes_back v nodes e (All-tail L r nodes known))
 
-ceiling_back : (v : Dialect) (value ceiling : ℕ) → family_of v ≡ Plans → IsCeiling v value ceiling → value ≡ ceiling
-ceiling_back PlanOne value ceiling e is = sym is
-ceiling_back PlanTwo value ceiling e is = sym is
-ceiling_back GapOne value ceiling e is = absurd (let bad : ⊥ = cc in bad)
-ceiling_back GapTwo value ceiling e is = absurd (let bad : ⊥ = cc in bad)
-
-numbers_back : (v : Dialect) → family_of v ≡ Plans → Means ≡ numbers_in v
-numbers_back PlanOne e = refl
-numbers_back PlanTwo e = refl
-numbers_back GapOne e = refl
-numbers_back GapTwo e = absurd (let bad : ⊥ = cc in bad)
-
 plan_back : (p : Problem) (v : Dialect) (expected : List (List ℕ)) (plan : GapPlan) → family_of v ≡ Plans → plan.numbers ≡ numbers_in v → IsReadAt p v expected due.Ended plan → gap_of Means (plan_of plan) ≡ plan
 plan_back p v expected plan e numbers read =
-    ap (λ (c : ℕ). record { standing = plan.standing; weight = plan.weight; ceiling = c; numbers = Means; nodes = map closed_node (map shape_of plan.nodes) }) (ceiling_back v plan.standing.value plan.ceiling e read.0.ceiling_is)
+    ap (λ (c : ℕ). record { standing = plan.standing; weight = plan.weight; ceiling = c; numbers = Means; nodes = map closed_node (map shape_of plan.nodes) }) (sym (ceiling_read v false plan.standing.value plan.ceiling (none_waits v e) read.0.ceiling_is))
     ∙ ap (λ (n : Numbers). record { standing = plan.standing; weight = plan.weight; ceiling = plan.ceiling; numbers = n; nodes = map closed_node (map shape_of plan.nodes) }) (numbers_back v e ∙ sym numbers)
     ∙ ap (λ (nodes : List GapNode). record { standing = plan.standing; weight = plan.weight; ceiling = plan.ceiling; numbers = plan.numbers; nodes = nodes }) (nodes_back v plan.nodes e read.1.lettered)
 
@@ -447,9 +410,10 @@ narrow_shape : (kind : GapKind) → IsNarrowNode kind → IsNarrowKind (shape_of
 narrow_shape (Closed kind) narrow = narrow
 narrow_shape (Waiting n) narrow = omega arith
 
-plain_shape : (kind : GapKind) → IsLettered PlanOne kind → IsNoEdge (shape_of_kind kind)
-plain_shape (Closed kind) known = known
-plain_shape (Waiting n) known = absurd known
+-- and it has a letter
+shape_letter : (v : Dialect) (kind : GapKind) → HasNodeLetter v kind → HasLetter v (shape_of_kind kind)
+shape_letter v (Closed kind) known = known
+shape_letter v (Waiting n) known = tt
 
 few_plan : (v : Dialect) (n : ℕ) → family_of v ≡ Plans → n + 0 ≤ most_records (family_of v) → n ≤ most_records Plans
 few_plan v n e few = subst (λ (family : Family). n ≤ most_records family) e (omega (arith, few))
@@ -479,26 +443,27 @@ whole_in_place p expected nodes placed none =
     let nothing_left : AreInPlace p expected [] = subst (λ (qs : List (List ℕ)). AreInPlace p qs []) (sym none) tt in
     subst (AreInPlace p ([] ∷ [])) (append-nil (map shape_of nodes)) (placed [] nothing_left)
 
--- the text of the version that was read
+-- where the dialect leaves prefixes out
+have_places : (p : Problem) (w : Prefixes) (expected : List (List ℕ)) (nodes : List GapNode) → IsPlaced p w expected nodes → (w ≡ LeftOut → expected ≡ []) → HavePlaces w p ([] ∷ []) (map shape_of nodes)
+have_places p Written expected nodes placed closed = tt
+have_places p LeftOut expected nodes placed closed = whole_in_place p expected nodes placed (closed refl)
+
+-- the text of the dialect that was read
 text_told : (p : Problem) (v : Dialect) (expected : List (List ℕ)) (plan : GapPlan) (text : List ℕ) → family_of v ≡ Plans → plan.numbers ≡ numbers_in v → IsReadAt p v expected due.Ended plan → text ≡ text_in v p plan → IsTextOfPlan p (plan_of plan) text
-text_told p PlanOne expected plan text e numbers read spelled =
-    let parts = printable_whole p PlanOne expected plan e read in
-    inl (record {
-      printable = parts.0;
-      narrow = parts.1;
-      no_edge = All-map (λ (r : TreeNode). IsNoEdge r.kind) shape_of plan.nodes (All-weaker (λ (r : GapNode). IsLettered PlanOne r.kind) (λ (r : GapNode). IsNoEdge (shape_of r).kind) (λ r known. plain_shape r.kind known) plan.nodes read.1.lettered);
-      spelled = spelled ∙ ap (text_in PlanOne p) (sym (plan_back p PlanOne expected plan e numbers read));
-    })
-text_told p PlanTwo expected plan text e numbers read spelled =
-    let parts = printable_whole p PlanTwo expected plan e read in
-    inr (record {
-      printable = parts.0;
-      narrow = parts.1;
-      in_place = whole_in_place p expected plan.nodes read.1.placed (read.2 refl);
-      spelled = spelled ∙ ap (text_in PlanTwo p) (sym (plan_back p PlanTwo expected plan e numbers read));
-    })
-text_told p GapOne expected plan text e numbers read spelled = absurd (let bad : ⊥ = cc in bad)
-text_told p GapTwo expected plan text e numbers read spelled = absurd (let bad : ⊥ = cc in bad)
+text_told p v expected plan text e numbers read spelled =
+    let parts = printable_whole p v expected plan e read in
+    let tree = read.1 in
+    let whole : gap_of (numbers_in v) (plan_of plan) ≡ plan = ap (λ (n : Numbers). gap_of n (plan_of plan)) (sym (numbers_back v e)) ∙ plan_back p v expected plan e numbers read in (
+      v,
+      e,
+      record {
+        printable = parts.0;
+        narrow = parts.1;
+        letters = All-map (λ (r : TreeNode). HasLetter v r.kind) shape_of plan.nodes (All-weaker (λ (r : GapNode). HasNodeLetter v r.kind) (λ (r : GapNode). HasLetter v (shape_of r).kind) (λ r known. shape_letter v r.kind known) plan.nodes tree.lettered);
+        in_place = have_places p (prefixes_in v) expected plan.nodes tree.placed read.2;
+        spelled = spelled ∙ ap (text_in v p) (sym whole);
+      },
+    )
 
 -- a plan that was read is that of a gap plan
 pub plan_told : (r : Result GapPlan PlanFault) (plan : Plan) → as_plan r ≡ Ok plan → (whole : GapPlan) × (r ≡ Ok whole) × (plan_of whole ≡ plan)
@@ -520,6 +485,7 @@ record IsGapDialect (v : Dialect) : Type 0 where
 gap_dialect : (v : Dialect) → family_of v ≡ Gaps → IsGapDialect v
 gap_dialect PlanOne e = absurd (let bad : ⊥ = cc in bad)
 gap_dialect PlanTwo e = absurd (let bad : ⊥ = cc in bad)
+gap_dialect PlanThree e = absurd (let bad : ⊥ = cc in bad)
 gap_dialect GapOne e = record { left_out = refl; ceiling = λ value ceiling is. is; alone = refl }
 gap_dialect GapTwo e = record { left_out = refl; ceiling = λ value ceiling is. is; alone = refl }
 
@@ -529,6 +495,7 @@ gap_told p v expected plan text e numbers read spelled =
     let own = gap_dialect v e in
     let chance = read.0.chance in
     let tree = read.1 in
+    let same : dialect_with plan.numbers ≡ v = ap dialect_with numbers ∙ own.alone in
     let few : length plan.nodes + 0 ≤ most_records Gaps = subst (λ (family : Family). length plan.nodes + 0 ≤ most_records family) e tree.few in
     record {
       printable = record {
@@ -537,10 +504,11 @@ gap_told p v expected plan text e numbers read spelled =
         positions = chance.path.positions;
         few = omega (arith, few);
         kinds = All-weaker (λ (r : GapNode). IsPrintableRecord p (shape_of r)) (λ (r : GapNode). IsPrintableKind p (shape_of r).kind) (λ r k. k.kind) plan.nodes tree.printable;
+        letters = subst (λ (x : Dialect). All (λ (r : GapNode). HasNodeLetter x r.kind) plan.nodes) (sym same) tree.lettered;
       };
       narrow = record { value = chance.value; weight = chance.weight_small; ceiling = own.ceiling plan.standing.value plan.ceiling read.0.ceiling_is; nodes = tree.narrow };
       in_place = whole_in_place p expected plan.nodes (subst (λ (w : Prefixes). IsPlaced p w expected plan.nodes) own.left_out tree.placed) (read.2 own.left_out);
-      spelled = spelled ∙ ap (λ (x : Dialect). text_in x p plan) (sym (ap dialect_with numbers ∙ own.alone));
+      spelled = spelled ∙ ap (λ (x : Dialect). text_in x p plan) (sym same);
     }
 
 pub one_text_a_gap : OneTextAGap

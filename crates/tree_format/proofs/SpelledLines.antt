@@ -8,27 +8,29 @@ use Rattle.std.proofs.lemmas.List.Elements.{All-nil, All-cons, All-head, All-tai
 use Rattle.search_model.specs.Legal.{IsLegal}
 use Rattle.search_model.proofs.PlainSteps.{positions_follow}
 use Rattle.search_model.specs.Problem.{Problem, IsProblem, position_name, position_named}
-use Rattle.bound_tree.specs.declared.node.Kind.{Kind}
-use Rattle.bound_tree.specs.declared.node.Kind.TheVariants.{Branch, Whole, Mean, Tangent, Edge}
+use Rattle.bound_tree.specs.declared.node.Kind.TheVariants.{Branch}
 use Rattle.bound_tree.specs.declared.gap.GapKind.{GapKind}
-use Rattle.bound_tree.specs.declared.gap.GapKind.TheVariants.{Closed, Waiting}
+use Rattle.bound_tree.specs.declared.gap.GapKind.TheVariants.{Closed}
 use Rattle.bound_tree.specs.declared.gap.GapNode.{GapNode}
 use Rattle.bound_tree.specs.Gaps.{shape_of_kind, shape_of}
 use Rattle.tree_format.specs.declared.kind.PlanKind.{PlanKind}
 use Rattle.tree_format.specs.declared.kind.PlanKind.TheVariants.{BadLine, BadNumber, UnknownName, TooManyNodes, WrongCount, NoPlace, StillOpen}
 use Rattle.tree_format.specs.declared.plan_line.Dialect.{Dialect}
-use Rattle.tree_format.specs.declared.plan_line.Dialect.TheVariants.{PlanOne, PlanTwo, GapOne, GapTwo}
+use Rattle.tree_format.specs.declared.plan_line.Dialect.TheVariants.{PlanOne, PlanTwo, PlanThree, GapOne, GapTwo}
 use Rattle.tree_format.specs.declared.plan_line.Family.{Family}
 use Rattle.tree_format.specs.declared.plan_line.Family.TheVariants.{Plans, Gaps}
 use Rattle.tree_format.specs.declared.plan_line.Prefixes.{Prefixes}
 use Rattle.tree_format.specs.declared.plan_line.Prefixes.TheVariants.{Written, LeftOut}
-use Rattle.tree_format.specs.Dialects.{family_of, dialects_of, word_of, version_of, version_row, has_edges, has_open, prefixes_in}
+use Rattle.tree_format.specs.Dialects.{family_of, dialects_of, word_of, version_of, version_row, prefixes_in}
 use Rattle.tree_format.specs.declared.plan_line.PlanLine.{PlanLine}
 use Rattle.tree_format.specs.declared.plan_line.PlanLine.TheVariants.{Version, Path, Chance, Ceiling, Count, Node, End}
 use Rattle.tree_format.specs.declared.record_lines.Bounded.{Bounded}
-use Rattle.tree_format.specs.PlanText.{numbers, node_fields, written, chance_row, ceiling_row, count_row, ArePositions, IsPrintableKind, IsPrintableRecord, IsNarrowNode, IsNoEdge}
-use Rattle.tree_format.specs.Reading.{all_of, amount_in, place_in, version_said, version_line, path_said, path_line, chance_said, chance_line, ceiling_said, ceiling_line, count_said, count_line, most_positions, branch_of, branch_line, bounded_of, bounded_line, node_of, tangent_of, tangent_line, node_line, placed, node_said, is_end, ending, end_said, record_line}
+use Rattle.tree_format.specs.declared.record_lines.Numbered.{Numbered}
+use Rattle.tree_format.specs.Letters.{all_numbered, letter_for, has_numbered, referred, kind_with, numbered_by}
+use Rattle.tree_format.specs.PlanText.{numbers, node_fields, written, chance_row, ceiling_row, count_row, ArePositions, IsPrintableKind, IsPrintableRecord, IsNarrowNode, HasNodeLetter}
+use Rattle.tree_format.specs.Reading.{all_of, amount_in, place_in, version_said, version_line, path_said, path_line, chance_said, chance_line, ceiling_said, ceiling_line, count_said, count_line, most_positions, branch_of, branch_line, bounded_of, bounded_line, node_of, numbered_line, node_line, placed, node_said, is_end, ending, end_said, record_line}
 use Rattle.text_rows.specs.Fields.{is_word}
+use Rattle.tree_format.proofs.Letters.{numbered_row, numbered_printable, numbered_narrow, numbered_letter, letter_told}
 use Rattle.tree_format.proofs.Told.{word_told, amount_told, places_told, names_told}
 use Rattle.text_rows.proofs.Results.{err_ok, same_ok, let_through}
 
@@ -46,7 +48,7 @@ AreOf family vs = All (λ v. family_of v ≡ family) vs
 all_of_family : (family : Family) → AreOf family (dialects_of family)
 all_of_family Plans =
     let F : Dialect → Type 0 = λ v. family_of v ≡ Plans in
-    All-cons F PlanOne (PlanTwo ∷ []) refl (All-cons F PlanTwo [] refl (All-nil F))
+    All-cons F PlanOne (PlanTwo ∷ PlanThree ∷ []) refl (All-cons F PlanTwo (PlanThree ∷ []) refl (All-cons F PlanThree [] refl (All-nil F)))
 all_of_family Gaps =
     let F : Dialect → Type 0 = λ v. family_of v ≡ Gaps in
     All-cons F GapOne (GapTwo ∷ []) refl (All-cons F GapTwo [] refl (All-nil F))
@@ -192,32 +194,16 @@ count_told most (word ∷ n ∷ more ∷ rest) said e = absurd (err_ok BadLine s
 
 -- Records.
 
--- a kind for which a dialect has a letter
-abbrev pub IsLettered : Dialect → GapKind → Type 0
-IsLettered PlanOne (Closed kind) = IsNoEdge kind
-IsLettered PlanOne (Waiting n) = ⊥
-IsLettered PlanTwo (Closed kind) = Unit {0}
-IsLettered PlanTwo (Waiting n) = ⊥
-IsLettered GapOne kind = Unit {0}
-IsLettered GapTwo kind = Unit {0}
-
 pub record IsNodeLine (p : Problem) (v : Dialect) (w : Prefixes) (fields : List (List ℕ)) (r : GapNode) : Type 0 where
   pub row : fields ≡ node_fields r.prefix r.kind
   pub positions : ArePositions p r.prefix
   pub short : length r.prefix ≤ most_positions p w
   pub kind : IsPrintableKind p (shape_of_kind r.kind)
   pub narrow : IsNarrowNode r.kind
-  pub lettered : IsLettered v r.kind
-
--- a kind that all dialects have
-lettered : (v : Dialect) (kind : Kind) → IsNoEdge kind → IsLettered v (Closed kind)
-lettered PlanOne kind plain = plain
-lettered PlanTwo kind plain = tt
-lettered GapOne kind plain = tt
-lettered GapTwo kind plain = tt
+  pub lettered : HasNodeLetter v r.kind
 
 -- a record of this kind, whose prefix the last fields spell
-node_made : (p : Problem) → IsProblem p → (v : Dialect) (w : Prefixes) (fields : List (List ℕ)) (q : List ℕ) (kind : GapKind) (r : GapNode) → fields ≡ node_fields q kind → ArePositions p q → length q ≤ most_positions p w → IsPrintableKind p (shape_of_kind kind) → IsNarrowNode kind → IsLettered v kind → ◌≡◌ {A = Result GapNode PlanKind} (Ok (record { prefix = q; kind = kind })) (Ok r) → IsNodeLine p v w fields r
+node_made : (p : Problem) → IsProblem p → (v : Dialect) (w : Prefixes) (fields : List (List ℕ)) (q : List ℕ) (kind : GapKind) (r : GapNode) → fields ≡ node_fields q kind → ArePositions p q → length q ≤ most_positions p w → IsPrintableKind p (shape_of_kind kind) → IsNarrowNode kind → HasNodeLetter v kind → ◌≡◌ {A = Result GapNode PlanKind} (Ok (record { prefix = q; kind = kind })) (Ok r) → IsNodeLine p v w fields r
 node_made p h v w fields q kind r row positions short k narrow letter e =
     let made : GapNode = record { prefix = q; kind = kind } in
     subst (IsNodeLine p v w fields) (same_ok made r e) (record { row = row; positions = positions; short = short; kind = k; narrow = narrow; lettered = letter })
@@ -228,113 +214,73 @@ branch_made p h v w letter cells None r is short all e = absurd (err_ok BadNumbe
 branch_made p h v w letter cells (Some q) r is short all e =
     let told = places_told p h cells q all in
     let long : length cells ≡ length q = ap length told.0 ∙ length-map q decimal in
-    node_made p h v w (letter ∷ cells) q (Closed Branch) r (rw is (ap (λ (x : List (List ℕ)). codes "B" ∷ x) told.0)) told.1 (omega (arith, long, short)) tt tt (lettered v Branch tt) e
+    node_made p h v w (letter ∷ cells) q (Closed Branch) r (rw is (ap (λ (x : List (List ℕ)). codes "B" ∷ x) told.0)) told.1 (omega (arith, long, short)) tt tt tt e
 
 branch_told : (p : Problem) → IsProblem p → (v : Dialect) (w : Prefixes) (letter : List ℕ) (cells : List (List ℕ)) (r : GapNode) → letter ≡ codes "B" → branch_line p (most_positions p w) cells ≡ Ok r → IsNodeLine p v w (letter ∷ cells) r
 branch_told p h v w letter cells r is e =
     let through = let_through (nat_le (length cells) (most_positions p w)) BadLine (branch_of (all_of (place_in p) cells)) r e in
     branch_made p h v w letter cells (all_of (place_in p) cells) r is (leb-true _ _ through.0) refl through.1
 
--- `W`, `M` and `E`
-record IsBounded (p : Problem) (most : ℕ) (fields : List (List ℕ)) (b : Bounded) : Type 0 where
-  row : fields ≡ decimal b.bound ∷ numbers b.prefix
+-- the others
+record IsBounded (p : Problem) (most long : ℕ) (fields : List (List ℕ)) (b : Bounded) : Type 0 where
+  row : fields ≡ decimal b.bound ∷ (numbers b.prefix ++ numbers b.reference)
   positions : ArePositions p b.prefix
   short : length b.prefix ≤ most
   narrow : b.bound < 2 ^ 128
+  refers : ArePositions p b.reference
+  all : length b.reference ≡ long
 
-bounded_made : (p : Problem) → IsProblem p → (most : ℕ) (bound : List ℕ) (cells : List (List ℕ)) (n : Option ℕ) (o : Option (List ℕ)) (b : Bounded) → length cells ≤ most → amount_in bound ≡ n → all_of (place_in p) cells ≡ o → bounded_of n o ≡ Ok b → IsBounded p most (bound ∷ cells) b
-bounded_made p h most bound cells None o b short a all e = absurd (err_ok BadNumber b e)
-bounded_made p h most bound cells (Some n) None b short a all e = absurd (err_ok BadNumber b e)
-bounded_made p h most bound cells (Some n) (Some q) b short a all e =
-    let told = places_told p h cells q all in
-    let number = amount_told bound n a in
-    let long : length cells ≡ length q = ap length told.0 ∙ length-map q decimal in
-    let made : Bounded = record { bound = n; prefix = q } in
-    subst (IsBounded p most (bound ∷ cells)) (same_ok made b e) (record {
-      row = ap (λ (x : List ℕ). x ∷ cells) number.0 ∙ ap (λ (x : List (List ℕ)). decimal n ∷ x) told.0;
-      positions = told.1;
-      short = omega (arith, long, short);
-      narrow = number.1;
-    })
-
-bounded_told : (p : Problem) → IsProblem p → (most : ℕ) (fields : List (List ℕ)) (b : Bounded) → bounded_line p most fields ≡ Ok b → IsBounded p most fields b
-bounded_told p h most [] b e = absurd (err_ok BadLine b e)
-bounded_told p h most (bound ∷ cells) b e =
-    let through = let_through (nat_le (length cells) most) BadLine (bounded_of (amount_in bound) (all_of (place_in p) cells)) b e in
-    bounded_made p h most bound cells (amount_in bound) (all_of (place_in p) cells) b (leb-true _ _ through.0) refl refl through.1
-
--- a kind that has such a line behind its letter
-record HasLetter (p : Problem) (v : Dialect) (letter : List ℕ) (kind : ℕ → GapKind) : Type 0 where
-  fields : (q : List ℕ) (n : ℕ) → node_fields q (kind n) ≡ letter ∷ (decimal n ∷ numbers q)
-  printable : (n : ℕ) → IsPrintableKind p (shape_of_kind (kind n))
-  narrow : (n : ℕ) → n < 2 ^ 128 → IsNarrowNode (kind n)
-  known : (n : ℕ) → IsLettered v (kind n)
-
-whole_letter : (p : Problem) (v : Dialect) → HasLetter p v (codes "W") (λ n. Closed (Whole n))
-whole_letter p v = record { fields = λ q n. refl; printable = λ n. tt; narrow = λ n small. small; known = λ n. lettered v (Whole n) tt }
-
-mean_letter : (p : Problem) (v : Dialect) → HasLetter p v (codes "M") (λ n. Closed (Mean n))
-mean_letter p v = record { fields = λ q n. refl; printable = λ n. tt; narrow = λ n small. small; known = λ n. lettered v (Mean n) tt }
-
-edge_letter : (p : Problem) (v : Dialect) → has_edges v ≡ true → HasLetter p v (codes "E") (λ n. Closed (Edge n))
-edge_letter p PlanOne has = absurd (let bad : ⊥ = cc in bad)
-edge_letter p PlanTwo has = record { fields = λ q n. refl; printable = λ n. tt; narrow = λ n small. small; known = λ n. tt }
-edge_letter p GapOne has = record { fields = λ q n. refl; printable = λ n. tt; narrow = λ n small. small; known = λ n. tt }
-edge_letter p GapTwo has = record { fields = λ q n. refl; printable = λ n. tt; narrow = λ n small. small; known = λ n. tt }
-
-waiting_letter : (p : Problem) (v : Dialect) → has_open v ≡ true → HasLetter p v (codes "O") (λ n. Waiting n)
-waiting_letter p PlanOne has = absurd (let bad : ⊥ = cc in bad)
-waiting_letter p PlanTwo has = absurd (let bad : ⊥ = cc in bad)
-waiting_letter p GapOne has = record { fields = λ q n. refl; printable = λ n. tt; narrow = λ n small. small; known = λ n. tt }
-waiting_letter p GapTwo has = record { fields = λ q n. refl; printable = λ n. tt; narrow = λ n small. small; known = λ n. tt }
-
-bounded_node : (p : Problem) → IsProblem p → (v : Dialect) (w : Prefixes) (letter word : List ℕ) (fields : List (List ℕ)) (kind : ℕ → GapKind) (o : Result Bounded PlanKind) (r : GapNode) → HasLetter p v word kind → letter ≡ word → bounded_line p (most_positions p w) fields ≡ o → node_of kind o ≡ Ok r → IsNodeLine p v w (letter ∷ fields) r
-bounded_node p h v w letter word fields kind (Err k) r has is line e = absurd (err_ok k r e)
-bounded_node p h v w letter word fields kind (Ok b) r has is line e =
-    let told = bounded_told p h (most_positions p w) fields b line in
-    node_made p h v w (letter ∷ fields) b.prefix (kind b.bound) r (ap (λ (x : List ℕ). x ∷ fields) is ∙ ap (λ (x : List (List ℕ)). word ∷ x) told.row ∙ sym (has.fields b.prefix b.bound))
-    told.positions told.short (has.printable b.bound) (has.narrow b.bound told.narrow) (has.known b.bound) e
-
--- `T`
-tangent_made : (p : Problem) → IsProblem p → (v : Dialect) (w : Prefixes) (letter bound : List ℕ) (cells : List (List ℕ)) (n : Option ℕ) (o u : Option (List ℕ)) (r : GapNode) → letter ≡ codes "T" → p.horizon ≤ length cells → length cells ≤ most_positions p w + p.horizon → amount_in bound ≡ n → all_of (place_in p) (take (length cells - p.horizon) cells) ≡ o → all_of (place_in p) (drop (length cells - p.horizon) cells) ≡ u → tangent_of n o u ≡ Ok r → IsNodeLine p v w (letter ∷ bound ∷ cells) r
-tangent_made p h v w letter bound cells None o u r is low high a front back e = absurd (err_ok BadNumber r e)
-tangent_made p h v w letter bound cells (Some n) None u r is low high a front back e = absurd (err_ok BadNumber r e)
-tangent_made p h v w letter bound cells (Some n) (Some q) None r is low high a front back e = absurd (err_ok BadNumber r e)
-tangent_made p h v w letter bound cells (Some n) (Some q) (Some x) r is low high a front back e =
-    let k = length cells - p.horizon in
+bounded_made : (p : Problem) → IsProblem p → (most long : ℕ) (bound : List ℕ) (cells : List (List ℕ)) (n : Option ℕ) (o u : Option (List ℕ)) (b : Bounded) → long ≤ length cells → length cells ≤ most + long → amount_in bound ≡ n → all_of (place_in p) (take (length cells - long) cells) ≡ o → all_of (place_in p) (drop (length cells - long) cells) ≡ u → bounded_of n o u ≡ Ok b → IsBounded p most long (bound ∷ cells) b
+bounded_made p h most long bound cells None o u b low high a front back e = absurd (err_ok BadNumber b e)
+bounded_made p h most long bound cells (Some n) None u b low high a front back e = absurd (err_ok BadNumber b e)
+bounded_made p h most long bound cells (Some n) (Some q) None b low high a front back e = absurd (err_ok BadNumber b e)
+bounded_made p h most long bound cells (Some n) (Some q) (Some x) b low high a front back e =
+    let k = length cells - long in
     let own = places_told p h (take k cells) q front in
     let reference = places_told p h (drop k cells) x back in
     let number = amount_told bound n a in
     let whole : cells ≡ numbers q ++ numbers x = sym (take-append-drop k cells) ∙ ap (λ (y : List (List ℕ)). y ++ drop k cells) own.0 ∙ ap (λ (y : List (List ℕ)). numbers q ++ y) reference.0 in
     let behind : length x ≡ length cells - k = sym (length-map x decimal) ∙ sym (ap length reference.0) ∙ length-drop k cells in
     let both : length cells ≡ length q + length x = ap length whole ∙ simp (length-append, length-map) in
-    node_made p h v w (letter ∷ bound ∷ cells) q (Closed (Tangent n x)) r
-    (ap (λ (y : List ℕ). y ∷ bound ∷ cells) is ∙ ap (λ (y : List ℕ). codes "T" ∷ y ∷ cells) number.0 ∙ ap (λ (y : List (List ℕ)). codes "T" ∷ decimal n ∷ y) whole)
-    own.1 (omega (arith, behind, both, low, high)) (reference.1, omega (arith, behind, low)) number.1 (lettered v (Tangent n x) tt) e
+    let made : Bounded = record { bound = n; prefix = q; reference = x } in
+    subst (IsBounded p most long (bound ∷ cells)) (same_ok made b e) (record {
+      row = ap (λ (y : List ℕ). y ∷ cells) number.0 ∙ ap (λ (y : List (List ℕ)). decimal n ∷ y) whole;
+      positions = own.1;
+      short = omega (arith, behind, both, low, high);
+      narrow = number.1;
+      refers = reference.1;
+      all = omega (arith, behind, low);
+    })
 
-tangent_told : (p : Problem) → IsProblem p → (v : Dialect) (w : Prefixes) (letter : List ℕ) (fields : List (List ℕ)) (r : GapNode) → letter ≡ codes "T" → tangent_line p (most_positions p w) fields ≡ Ok r → IsNodeLine p v w (letter ∷ fields) r
-tangent_told p h v w letter [] r is e = absurd (err_ok BadLine r e)
-tangent_told p h v w letter (bound ∷ cells) r is e =
-    let k = length cells - p.horizon in
-    let through = let_through (nat_le p.horizon (length cells) && nat_le (length cells) (most_positions p w + p.horizon)) BadLine _ r e in
-    let within = and_parts (nat_le p.horizon (length cells)) (nat_le (length cells) (most_positions p w + p.horizon)) through.0 in
-    tangent_made p h v w letter bound cells (amount_in bound) (all_of (place_in p) (take k cells)) (all_of (place_in p) (drop k cells)) r is (leb-true _ _ within.0) (leb-true _ _ within.1) refl refl refl through.1
+bounded_told : (p : Problem) → IsProblem p → (most long : ℕ) (fields : List (List ℕ)) (b : Bounded) → bounded_line p most long fields ≡ Ok b → IsBounded p most long fields b
+bounded_told p h most long [] b e = absurd (err_ok BadLine b e)
+bounded_told p h most long (bound ∷ cells) b e =
+    let k = length cells - long in
+    let through = let_through (nat_le long (length cells) && nat_le (length cells) (most + long)) BadLine _ b e in
+    let within = and_parts (nat_le long (length cells)) (nat_le (length cells) (most + long)) through.0 in
+    bounded_made p h most long bound cells (amount_in bound) (all_of (place_in p) (take k cells)) (all_of (place_in p) (drop k cells)) b (leb-true _ _ within.0) (leb-true _ _ within.1) refl refl refl through.1
+
+bounded_node : (p : Problem) → IsProblem p → (v : Dialect) (w : Prefixes) (letter : List ℕ) (fields : List (List ℕ)) (kind : Numbered) (o : Result Bounded PlanKind) (r : GapNode) → letter ≡ letter_for kind → has_numbered v kind ≡ true → bounded_line p (most_positions p w) (referred p kind) fields ≡ o → node_of kind o ≡ Ok r → IsNodeLine p v w (letter ∷ fields) r
+bounded_node p h v w letter fields kind (Err k) r is has line e = absurd (err_ok k r e)
+bounded_node p h v w letter fields kind (Ok b) r is has line e =
+    let told = bounded_told p h (most_positions p w) (referred p kind) fields b line in
+    node_made p h v w (letter ∷ fields) b.prefix (kind_with kind b.bound b.reference) r
+    (ap (λ (x : List ℕ). x ∷ fields) is ∙ ap (λ (x : List (List ℕ)). letter_for kind ∷ x) told.row ∙ sym (numbered_row p kind b.prefix b.bound b.reference told.all))
+    told.positions told.short (numbered_printable p kind b.bound b.reference told.all told.refers) (numbered_narrow kind b.bound b.reference told.narrow) (numbered_letter v kind b.bound b.reference has) e
+
+numbered_node : (p : Problem) → IsProblem p → (v : Dialect) (w : Prefixes) (letter : List ℕ) (fields : List (List ℕ)) (kind : Option Numbered) (r : GapNode) → numbered_by v letter ≡ kind → numbered_line p (most_positions p w) kind fields ≡ Ok r → IsNodeLine p v w (letter ∷ fields) r
+numbered_node p h v w letter fields None r is e = absurd (err_ok BadLine r e)
+numbered_node p h v w letter fields (Some kind) r is e =
+    let told = letter_told v all_numbered letter kind is in
+    bounded_node p h v w letter fields kind (bounded_line p (most_positions p w) (referred p kind) fields) r told.0 told.1 refl e
 
 pub node_told : (p : Problem) → IsProblem p → (v : Dialect) (fields : List (List ℕ)) (r : GapNode) → node_line p v fields ≡ Ok r → IsNodeLine p v (prefixes_in v) fields r
 node_told p h v [] r e = absurd (err_ok BadLine r e)
 node_told p h v (letter ∷ fields) r e =
     let w = prefixes_in v in
-    let G : Result GapNode PlanKind → Type 0 = λ x. x ≡ Ok r → IsNodeLine p v w (letter ∷ fields) r in
-    let line = bounded_line p (most_positions p w) fields in
-    cond_both (is_word letter (codes "B")) _ _ G (λ is. branch_told p h v w letter fields r (word_told letter (codes "B") is))
-    (λ _. cond_both (is_word letter (codes "W")) _ _ G (λ is. bounded_node p h v w letter (codes "W") fields (λ n. Closed (Whole n)) line r (whole_letter p v) (word_told letter (codes "W") is) refl)
-    (λ _. cond_both (is_word letter (codes "M")) _ _ G (λ is. bounded_node p h v w letter (codes "M") fields (λ n. Closed (Mean n)) line r (mean_letter p v) (word_told letter (codes "M") is) refl)
-    (λ _. cond_both (is_word letter (codes "T")) _ _ G (λ is. tangent_told p h v w letter fields r (word_told letter (codes "T") is))
-    (λ _. cond_both (is_word letter (codes "E") && has_edges v) _ _ G
-    (λ both. let is = and_parts (is_word letter (codes "E")) (has_edges v) both in bounded_node p h v w letter (codes "E") fields (λ n. Closed (Edge n)) line r (edge_letter p v is.1) (word_told letter (codes "E") is.0) refl)
-    (λ _. cond_both (is_word letter (codes "O") && has_open v) _ _ G
-    (λ both. let is = and_parts (is_word letter (codes "O")) (has_open v) both in bounded_node p h v w letter (codes "O") fields (λ n. Waiting n) line r (waiting_letter p v is.1) (word_told letter (codes "O") is.0) refl)
-    (λ _ e'. absurd (err_ok BadLine r e'))))))) e
+    cond_both (is_word letter (codes "B")) (branch_line p (most_positions p w) fields) (numbered_line p (most_positions p w) (numbered_by v letter) fields) (λ (x : Result GapNode PlanKind). x ≡ Ok r → IsNodeLine p v w (letter ∷ fields) r)
+    (λ is. branch_told p h v w letter fields r (word_told letter (codes "B") is))
+    (λ _. numbered_node p h v w letter fields (numbered_by v letter) r refl) e
 
 -- a record has the prefix that is expected next, where the text leaves prefixes out
 abbrev pub HasPlace : Prefixes → List (List ℕ) → List ℕ → Type 0
@@ -355,7 +301,7 @@ pub record IsRecordIn (p : Problem) (v : Dialect) (w : Prefixes) (left : ℕ) (e
   pub place : HasPlace w expected node.prefix
   pub kind : IsPrintableKind p (shape_of_kind node.kind)
   pub narrow : IsNarrowNode node.kind
-  pub lettered : IsLettered v node.kind
+  pub lettered : HasNodeLetter v node.kind
   pub is : said ≡ Node node
   pub more : 1 ≤ left
 

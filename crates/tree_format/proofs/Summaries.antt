@@ -1,6 +1,6 @@
 -- A line is judged by the first 40 bytes of each of its first 70 fields.
-use Rattle.std.proofs.Common.{◌≡◌, ℕ, ◌<◌, ◌≤◌, ◌-◌, ◌+◌, ◌^◌, Bool, true, false, cond, List, [], ◌∷◌, map, length, get_or, take, drop, Option, None, Result, Err, refl, sym, ap, subst, ◌∙◌, arith, inl, inr}
-use Rattle.std.specs.Prelude.{codes, nat_le, ◌==◌, ◌&&◌}
+use Rattle.std.proofs.Common.{◌≡◌, ℕ, ◌<◌, ◌≤◌, ◌-◌, ◌+◌, ◌^◌, Bool, false, cond, List, [], ◌∷◌, map, length, get_or, take, drop, Option, Some, None, Result, Err, refl, sym, ap, subst, ◌∙◌, arith, inl, inr}
+use Rattle.std.specs.Prelude.{codes, nat_le, ◌==◌}
 use Rattle.std.specs.List.{list_any}
 use Rattle.std.specs.Str.{bytes_eq}
 use Rattle.std.proofs.lemmas.Bool.{cases_lt, cond_both, lt-leb, ne_eqb, false_from_ne_true}
@@ -23,12 +23,16 @@ use Rattle.tree_format.specs.declared.plan_line.Family.{Family}
 use Rattle.tree_format.specs.declared.plan_line.Family.TheVariants.{Plans, Gaps}
 use Rattle.tree_format.specs.declared.plan_line.Prefixes.{Prefixes}
 use Rattle.tree_format.specs.declared.plan_line.Prefixes.TheVariants.{Written, LeftOut}
-use Rattle.tree_format.specs.declared.plan_line.Dialect.TheVariants.{PlanOne, PlanTwo, GapOne, GapTwo}
-use Rattle.tree_format.specs.Dialects.{family_of, dialects_of, word_of, version_of, most_records, has_edges, has_open, prefixes_in}
+use Rattle.tree_format.specs.declared.plan_line.Dialect.TheVariants.{PlanOne, PlanTwo, PlanThree, GapOne, GapTwo}
+use Rattle.tree_format.specs.Dialects.{family_of, dialects_of, word_of, version_of, most_records, prefixes_in}
+use Rattle.tree_format.specs.declared.record_lines.Numbered.{Numbered}
+use Rattle.tree_format.specs.declared.record_lines.Numbered.TheVariants.{Whole, Mean, Tangent, Edge, Exchange, Waiting}
+use Rattle.tree_format.specs.Letters.{all_numbered, letter_for, referred, kind_among, numbered_by}
+use Rattle.tree_format.proofs.Letters.{letter_short}
 use Rattle.tree_format.specs.declared.plan_line.Stage.{Stage}
 use Rattle.tree_format.specs.declared.plan_line.Stage.TheVariants as due
 use Rattle.tree_format.specs.declared.plan_line.PlanLine.{PlanLine}
-use Rattle.tree_format.specs.Reading.{said, amount_in, place_in, all_of, version_said, version_line, path_line, chance_line, ceiling_line, count_line, most_positions, branch_line, bounded_line, tangent_line, node_line, is_end, record_line, stage_line, line_at}
+use Rattle.tree_format.specs.Reading.{said, amount_in, place_in, all_of, version_said, version_line, path_line, chance_line, ceiling_line, count_line, most_positions, branch_line, bounded_line, node_of, numbered_line, node_line, is_end, record_line, stage_line, line_at}
 use Rattle.text_rows.specs.Fields.{is_word}
 use Rattle.list_laws.proofs.Firsts.{position-none}
 use Rattle.tree_format.specs.ReadingLaws.{SummaryDecides}
@@ -84,6 +88,7 @@ word_short Gaps = omega arith
 version_short : (v : Dialect) → length (version_of v) < 40
 version_short PlanOne = omega arith
 version_short PlanTwo = omega arith
+version_short PlanThree = omega arith
 version_short GapOne = omega arith
 version_short GapTwo = omega arith
 
@@ -136,21 +141,29 @@ module _ (p : Problem) (h : IsProblem p) where
   front_branch : (most : ℕ) (fs : List (List ℕ)) → branch_line p most (map front fs) ≡ branch_line p most fs
   front_branch most fs = rw (length-map fs front, front_places fs) refl
 
-  front_bounded : (most : ℕ) (fs : List (List ℕ)) → bounded_line p most (map front fs) ≡ bounded_line p most fs
-  front_bounded most [] = refl
-  front_bounded most (n ∷ fs) = rw (length-map fs front, front_amount n, front_places fs) refl
-
-  front_tangent : (most : ℕ) (fs : List (List ℕ)) → tangent_line p most (map front fs) ≡ tangent_line p most fs
-  front_tangent most [] = refl
-  front_tangent most (n ∷ fs) =
-      let k = length fs - p.horizon in
+  front_bounded : (most long : ℕ) (fs : List (List ℕ)) → bounded_line p most long (map front fs) ≡ bounded_line p most long fs
+  front_bounded most long [] = refl
+  front_bounded most long (n ∷ fs) =
+      let k = length fs - long in
       rw (length-map fs front, front_amount n, take-map front k fs, drop-map front k fs, front_places (take k fs), front_places (drop k fs)) refl
+
+  front_letter : (v : Dialect) (all : List Numbered) (f : List ℕ) → kind_among v all (front f) ≡ kind_among v all f
+  front_letter v [] f = refl
+  front_letter v (kind ∷ all) f = rw (front_word f (letter_for kind) (letter_short kind), front_letter v all f) refl
+
+  front_numbered : (most : ℕ) (kind : Option Numbered) (fs : List (List ℕ)) → numbered_line p most kind (map front fs) ≡ numbered_line p most kind fs
+  front_numbered most None fs = refl
+  front_numbered most (Some kind) fs = ap (node_of kind) (front_bounded most (referred p kind) fs)
 
   front_node : (v : Dialect) (fs : List (List ℕ)) → node_line p v (map front fs) ≡ node_line p v fs
   front_node v [] = refl
   front_node v (f ∷ fs) =
       let most = most_positions p (prefixes_in v) in
-      rw (front_word f (codes "B") (omega arith), front_word f (codes "W") (omega arith), front_word f (codes "M") (omega arith), front_word f (codes "T") (omega arith), front_word f (codes "E") (omega arith), front_word f (codes "O") (omega arith), front_branch most fs, front_bounded most fs, front_tangent most fs) refl
+      let branch = branch_line p most (map front fs) in
+      ap (λ (b : Bool). cond b branch (numbered_line p most (numbered_by v (front f)) (map front fs))) (front_word f (codes "B") (omega arith))
+      ∙ ap (λ (kind : Option Numbered). cond (is_word f (codes "B")) branch (numbered_line p most kind (map front fs))) (front_letter v all_numbered f)
+      ∙ ap (cond (is_word f (codes "B")) branch) (front_numbered most (numbered_by v f) fs)
+      ∙ ap (λ (line : Result GapNode PlanKind). cond (is_word f (codes "B")) line (numbered_line p most (numbered_by v f) fs)) (front_branch most fs)
 
   front_end : (fs : List (List ℕ)) → is_end (map front fs) ≡ is_end fs
   front_end [] = refl
@@ -179,23 +192,21 @@ module _ (p : Problem) (h : IsProblem p) where
   no_branch : (most : ℕ) → most ≤ 32 → (fs : List (List ℕ)) → 66 ≤ length fs → branch_line p most fs ≡ Err BadLine
   no_branch most few fs long = rw (lt-leb (length fs) most (omega (arith, long, few))) refl
 
-  no_bounded : (most : ℕ) → most ≤ 32 → (fs : List (List ℕ)) → 66 ≤ length fs → bounded_line p most fs ≡ Err BadLine
-  no_bounded most few [] long = absurd (omega arith)
-  no_bounded most few (n ∷ fs) long = rw (lt-leb (length fs) most (omega (arith, long, few))) refl
+  no_bounded : (most long : ℕ) → most ≤ 32 → long ≤ 32 → (fs : List (List ℕ)) → 66 ≤ length fs → bounded_line p most long fs ≡ Err BadLine
+  no_bounded most long few fewer [] many = absurd (omega arith)
+  no_bounded most long few fewer (n ∷ fs) many = rw (lt-leb (length fs) (most + long) (omega (arith, many, few, fewer)), and-false (nat_le long (length fs))) refl
 
-  no_tangent : (most : ℕ) → most ≤ 32 → (fs : List (List ℕ)) → 66 ≤ length fs → tangent_line p most fs ≡ Err BadLine
-  no_tangent most few [] long = absurd (omega arith)
-  no_tangent most few (n ∷ fs) long =
-      rw (lt-leb (length fs) (most + p.horizon) (omega (arith, long, few, h.horizon.1)), and-false (nat_le p.horizon (length fs))) refl
+  few_referred : (kind : Numbered) → referred p kind ≤ 32
+  few_referred Whole = omega arith
+  few_referred Mean = omega arith
+  few_referred Tangent = h.horizon.1
+  few_referred Edge = omega arith
+  few_referred Exchange = omega arith
+  few_referred Waiting = omega arith
 
-  no_letter : (b w m t e o : Bool) → ◌≡◌ {A = Result GapNode PlanKind} (cond b (Err BadLine) (cond w (Err BadLine) (cond m (Err BadLine) (cond t (Err BadLine) (cond e (Err BadLine) (cond o (Err BadLine) (Err BadLine))))))) (Err BadLine)
-  no_letter true w m t e o = refl
-  no_letter false true m t e o = refl
-  no_letter false false true t e o = refl
-  no_letter false false false true e o = refl
-  no_letter false false false false true o = refl
-  no_letter false false false false false true = refl
-  no_letter false false false false false false = refl
+  no_numbered : (most : ℕ) → most ≤ 32 → (kind : Option Numbered) (fs : List (List ℕ)) → 66 ≤ length fs → numbered_line p most kind fs ≡ Err BadLine
+  no_numbered most few None fs long = refl
+  no_numbered most few (Some kind) fs long = ap (node_of kind) (no_bounded most (referred p kind) few (few_referred kind) fs long)
 
   few_cells : (w : Prefixes) → most_positions p w ≤ 32
   few_cells Written = h.horizon.1
@@ -207,7 +218,7 @@ module _ (p : Problem) (h : IsProblem p) where
       let most = most_positions p (prefixes_in v) in
       let few = few_cells (prefixes_in v) in
       let more : 66 ≤ length fs = omega (arith, long) in
-      rw (no_branch most few fs more, no_bounded most few fs more, no_tangent most few fs more) (no_letter (is_word f (codes "B")) (is_word f (codes "W")) (is_word f (codes "M")) (is_word f (codes "T")) (is_word f (codes "E") && has_edges v) (is_word f (codes "O") && has_open v))
+      cond_both (is_word f (codes "B")) (branch_line p most fs) (numbered_line p most (numbered_by v f) fs) (λ (x : Result GapNode PlanKind). x ≡ Err BadLine) (λ _. no_branch most few fs more) (λ _. no_numbered most few (numbered_by v f) fs more)
 
   no_record : (v : Dialect) (left : ℕ) (expected fs : List (List ℕ)) → 67 ≤ length fs → record_line p v left expected fs ≡ Err BadLine
   no_record v left expected [] long = absurd (omega arith)

@@ -5,24 +5,25 @@ use Rattle.std.specs.List.{list_any}
 use Rattle.std.proofs.lemmas.List.{take-append-drop}
 use Rattle.std.proofs.lemmas.List.Folds.{list_any-append}
 use Rattle.search_model.specs.Problem.{Problem, position_named}
-use Rattle.bound_tree.specs.declared.node.Kind.TheVariants.{Branch, Whole, Mean, Tangent, Edge}
-use Rattle.bound_tree.specs.declared.gap.GapKind.{GapKind}
-use Rattle.bound_tree.specs.declared.gap.GapKind.TheVariants.{Closed, Waiting}
+use Rattle.bound_tree.specs.declared.node.Kind.TheVariants.{Branch}
+use Rattle.bound_tree.specs.declared.gap.GapKind.TheVariants.{Closed}
 use Rattle.bound_tree.specs.declared.gap.GapNode.{GapNode}
 use Rattle.tree_format.specs.declared.kind.PlanKind.{PlanKind}
 use Rattle.tree_format.specs.declared.kind.PlanKind.TheVariants.{BadLine, BadNumber, UnknownName, TooManyNodes, WrongCount, NoPlace, StillOpen}
 use Rattle.tree_format.specs.declared.plan_line.Dialect.{Dialect}
 use Rattle.tree_format.specs.declared.plan_line.Prefixes.{Prefixes}
 use Rattle.tree_format.specs.declared.plan_line.Prefixes.TheVariants.{Written, LeftOut}
-use Rattle.tree_format.specs.Dialects.{family_of, dialects_of, word_of, version_of, most_records, has_edges, has_open, prefixes_in}
+use Rattle.tree_format.specs.Dialects.{family_of, dialects_of, word_of, version_of, most_records, prefixes_in}
 use Rattle.tree_format.specs.declared.plan_line.Stage.{Stage}
 use Rattle.tree_format.specs.declared.plan_line.Stage.TheVariants as due
 use Rattle.tree_format.specs.declared.plan_line.PlanLine.{PlanLine}
 use Rattle.tree_format.specs.declared.plan_line.PlanLine.TheVariants.{Version, Count}
 use Rattle.tree_format.specs.declared.record_lines.Bounded.{Bounded}
-use Rattle.tree_format.specs.Reading.{amount_in, place_in, in_front, all_of, version_said, path_said, chance_said, ceiling_said, count_said, most_positions, branch_of, branch_line, bounded_of, bounded_line, node_of, tangent_of, tangent_line, node_line, placed, node_said, is_end, ending, end_said, stage_line, line_at}
+use Rattle.tree_format.specs.declared.record_lines.Numbered.{Numbered}
+use Rattle.tree_format.specs.Letters.{referred, kind_with, numbered_by}
+use Rattle.tree_format.specs.Reading.{amount_in, place_in, in_front, all_of, version_said, path_said, chance_said, ceiling_said, count_said, most_positions, branch_of, branch_line, bounded_of, bounded_line, node_of, numbered_line, node_line, placed, node_said, is_end, ending, end_said, stage_line, line_at}
 use Rattle.text_rows.specs.Fields.{is_word, first_alone, behind_first}
-use Rattle.tree_format.specs.KindTable.{bounded_form, tangent_form, node_form, has_form, node_amounts, node_positions, is_bad_number, has_unknown, has_too_many, is_miscounted, lacks_place, awaits_record, has_no_place, is_still_open, KindsByTable}
+use Rattle.tree_format.specs.KindTable.{bounded_form, numbered_form, node_form, has_form, node_amounts, node_positions, is_bad_number, has_unknown, has_too_many, is_miscounted, lacks_place, awaits_record, has_no_place, is_still_open, KindsByTable}
 use Rattle.text_rows.specs.Kinds.{first_kind, fault_of}
 
 -- fields say something together where each does
@@ -117,16 +118,11 @@ branch_said : (o : Option (List ℕ)) → IsSaid (branch_of o) (is_none o)
 branch_said None = no_number
 branch_said (Some q) = all_numbers (record { prefix = q; kind = Closed Branch })
 
-bounded_said : (kind : ℕ → GapKind) (a : Option ℕ) (o : Option (List ℕ)) → IsSaid (node_of kind (bounded_of a o)) ((is_none a || false) || is_none o)
-bounded_said kind None o = no_number
-bounded_said kind (Some n) None = no_number
-bounded_said kind (Some n) (Some q) = all_numbers (record { prefix = q; kind = kind n })
-
-tangent_said : (a : Option ℕ) (o u : Option (List ℕ)) → IsSaid (tangent_of a o u) ((is_none a || false) || (is_none o || is_none u))
-tangent_said None o u = no_number
-tangent_said (Some n) None u = no_number
-tangent_said (Some n) (Some q) None = no_number
-tangent_said (Some n) (Some q) (Some x) = all_numbers (record { prefix = q; kind = Closed (Tangent n x) })
+bounded_said : (kind : Numbered) (a : Option ℕ) (o u : Option (List ℕ)) → IsSaid (node_of kind (bounded_of a o u)) ((is_none a || false) || (is_none o || is_none u))
+bounded_said kind None o u = no_number
+bounded_said kind (Some n) None u = no_number
+bounded_said kind (Some n) (Some q) None = no_number
+bounded_said kind (Some n) (Some q) (Some x) = all_numbers (record { prefix = q; kind = kind_with kind n x })
 
 judged : (form : Bool) (r : Result GapNode PlanKind) (number : Bool) → IsSaid r number → IsJudged (cond form r (Err BadLine)) form number
 judged true r number said = record { bad = λ e. absurd (let bad : ⊥ = cc in bad); good = λ _. said }
@@ -135,7 +131,7 @@ judged false r number said = record { bad = λ _. refl; good = λ e. absurd (let
 misformed : (number : Bool) → IsJudged (Err BadLine) false number
 misformed number = record { bad = λ _. refl; good = λ e. absurd (let bad : ⊥ = cc in bad) }
 
-inside : (kind : ℕ → GapKind) (form : Bool) (r : Result Bounded PlanKind) → node_of kind (cond form r (Err BadLine)) ≡ cond form (node_of kind r) (Err BadLine)
+inside : (kind : Numbered) (form : Bool) (r : Result Bounded PlanKind) → node_of kind (cond form r (Err BadLine)) ≡ cond form (node_of kind r) (Err BadLine)
 inside kind true r = refl
 inside kind false r = refl
 
@@ -156,27 +152,23 @@ module _ (p : Problem) (most : ℕ) where
       subst (IsJudged (branch_line p most fields) (nat_le (length fields) most)) (all_none (place_in p) fields)
       (judged (nat_le (length fields) most) (branch_of (all_of (place_in p) fields)) _ (branch_said (all_of (place_in p) fields)))
 
-  bounded_judged : (kind : ℕ → GapKind) (fields : List (List ℕ)) → IsJudged (node_of kind (bounded_line p most fields)) (bounded_form most fields) (list_any no_amount (first_alone fields) || list_any no_place (behind_first fields))
-  bounded_judged kind [] = misformed false
-  bounded_judged kind (n ∷ cells) =
-      let form = nat_le (length cells) most in
-      let o = all_of (place_in p) cells in
-      let here = judged form (node_of kind (bounded_of (amount_in n) o)) _ (bounded_said kind (amount_in n) o) in
-      subst (λ (r : Result GapNode PlanKind). IsJudged r form ((no_amount n || false) || list_any no_place cells)) (sym (inside kind form (bounded_of (amount_in n) o)))
-      (subst (λ (none : Bool). IsJudged (cond form (node_of kind (bounded_of (amount_in n) o)) (Err BadLine)) form ((no_amount n || false) || none)) (all_none (place_in p) cells) here)
-
-  tangent_judged : (fields : List (List ℕ)) → IsJudged (tangent_line p most fields) (tangent_form p most fields) (list_any no_amount (first_alone fields) || list_any no_place (behind_first fields))
-  tangent_judged [] = misformed false
-  tangent_judged (n ∷ cells) =
-      let form = nat_le p.horizon (length cells) && nat_le (length cells) (most + p.horizon) in
-      let k = length cells - p.horizon in
+  bounded_judged : (kind : Numbered) (long : ℕ) (fields : List (List ℕ)) → IsJudged (node_of kind (bounded_line p most long fields)) (bounded_form most long fields) (list_any no_amount (first_alone fields) || list_any no_place (behind_first fields))
+  bounded_judged kind long [] = misformed false
+  bounded_judged kind long (n ∷ cells) =
+      let form = nat_le long (length cells) && nat_le (length cells) (most + long) in
+      let k = length cells - long in
       let o = all_of (place_in p) (take k cells) in
       let u = all_of (place_in p) (drop k cells) in
       let both : (is_none o || is_none u) ≡ list_any no_place cells =
       ap (λ (b : Bool). b || is_none u) (all_none (place_in p) (take k cells)) ∙ ap (λ (b : Bool). list_any no_place (take k cells) || b) (all_none (place_in p) (drop k cells))
       ∙ sym (list_any-append no_place (take k cells) (drop k cells)) ∙ ap (list_any no_place) (take-append-drop k cells) in
-      subst (λ (none : Bool). IsJudged (tangent_line p most (n ∷ cells)) form ((no_amount n || false) || none)) both
-      (judged form (tangent_of (amount_in n) o u) _ (tangent_said (amount_in n) o u))
+      let here = judged form (node_of kind (bounded_of (amount_in n) o u)) _ (bounded_said kind (amount_in n) o u) in
+      subst (λ (r : Result GapNode PlanKind). IsJudged r form ((no_amount n || false) || list_any no_place cells)) (sym (inside kind form (bounded_of (amount_in n) o u)))
+      (subst (λ (none : Bool). IsJudged (cond form (node_of kind (bounded_of (amount_in n) o u)) (Err BadLine)) form ((no_amount n || false) || none)) both here)
+
+  numbered_judged : (kind : Option Numbered) (fields : List (List ℕ)) → IsJudged (numbered_line p most kind fields) (numbered_form p most kind fields) (list_any no_amount (first_alone fields) || list_any no_place (behind_first fields))
+  numbered_judged None fields = misformed _
+  numbered_judged (Some kind) fields = bounded_judged kind (referred p kind) fields
 
 module _ (p : Problem) where
   abbrev numberless : List (List ℕ) → List (List ℕ) → Bool
@@ -186,13 +178,7 @@ module _ (p : Problem) where
   node_judged v [] = misformed false
   node_judged v (letter ∷ fields) =
       let most = most_positions p (prefixes_in v) in
-      let number : Bool → Bool = λ _. numberless (first_alone fields) (behind_first fields) in
-      by_letter (is_word letter (codes "B")) _ _ _ _ (λ (b : Bool). numberless (cond b [] (first_alone fields)) (cond b fields (behind_first fields))) (branch_judged p most fields)
-      (by_letter (is_word letter (codes "W")) _ _ _ _ number (bounded_judged p most (λ n. Closed (Whole n)) fields)
-      (by_letter (is_word letter (codes "M")) _ _ _ _ number (bounded_judged p most (λ n. Closed (Mean n)) fields)
-      (by_letter (is_word letter (codes "T")) _ _ _ _ number (tangent_judged p most fields)
-      (by_letter (is_word letter (codes "E") && has_edges v) _ _ _ _ number (bounded_judged p most (λ n. Closed (Edge n)) fields)
-      (by_letter (is_word letter (codes "O") && has_open v) _ _ _ _ number (bounded_judged p most (λ n. Waiting n) fields) (misformed _))))))
+      by_letter (is_word letter (codes "B")) _ _ _ _ (λ (b : Bool). numberless (cond b [] (first_alone fields)) (cond b fields (behind_first fields))) (branch_judged p most fields) (numbered_judged p most (numbered_by v letter) fields)
 
   end_numbers : (fields : List (List ℕ)) → is_end fields ≡ true → numberless (node_amounts fields) (node_positions fields) ≡ false
   end_numbers [] e = absurd (let bad : ⊥ = cc in bad)

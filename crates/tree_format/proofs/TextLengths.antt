@@ -1,5 +1,5 @@
 -- How long the text of a plan can be.
-use Rattle.std.proofs.Common.{ℕ, ◌+◌, ◌*◌, ◌<◌, ◌≤◌, ◌≡◌, ◌^◌, List, [], ◌∷◌, ◌++◌, map, length, codes, inl, inr, refl, ap, arith, All, length-append}
+use Rattle.std.proofs.Common.{ℕ, ◌+◌, ◌*◌, ◌<◌, ◌≤◌, ◌≡◌, ◌^◌, List, [], ◌∷◌, ◌++◌, map, length, codes, ap, arith, All, length-append}
 use Rattle.std.specs.Fmt.{decimal}
 use Rattle.std.proofs.lemmas.Fmt.{length-decimal-le_wide}
 use Rattle.std.proofs.lemmas.List.{length-map}
@@ -9,22 +9,22 @@ use Rattle.text_rows.specs.Rows.{text_of, spaced}
 use Rattle.text_rows.proofs.RowLemmas.{join-fields, text_of-append, spaced_short}
 use Rattle.search_model.specs.Names.{IsName}
 use Rattle.search_model.specs.Problem.{Problem, IsProblem, position_name}
-use Rattle.bound_tree.specs.declared.node.Kind.TheVariants.{Branch, Whole, Mean, Tangent, Edge}
+use Rattle.bound_tree.specs.declared.node.Kind.TheVariants.{Branch, Whole, Mean, Tangent, Edge, Exchange}
 use Rattle.bound_tree.specs.declared.gap.GapKind.{GapKind}
 use Rattle.bound_tree.specs.declared.gap.GapKind.TheVariants.{Closed, Waiting}
-use Rattle.bound_tree.specs.declared.gap.Numbers.TheVariants.{Means}
 use Rattle.bound_tree.specs.declared.gap.GapNode.{GapNode}
-use Rattle.bound_tree.specs.Gaps.{shape_of_kind, shape_of, closed_node, gap_of}
+use Rattle.bound_tree.specs.Gaps.{shape_of_kind, shape_of, closed_node}
 use Rattle.bound_tree.specs.declared.node.TreeNode.{TreeNode}
 use Rattle.bound_tree.specs.declared.plan.Plan.{Plan}
 use Rattle.tree_format.specs.declared.plan_line.Dialect.{Dialect}
-use Rattle.tree_format.specs.declared.plan_line.Dialect.TheVariants.{PlanOne, PlanTwo, GapOne, GapTwo}
+use Rattle.tree_format.specs.declared.plan_line.Dialect.TheVariants.{PlanOne, PlanTwo, PlanThree, GapOne, GapTwo}
 use Rattle.tree_format.specs.declared.plan_line.Prefixes.{Prefixes}
 use Rattle.tree_format.specs.declared.plan_line.Prefixes.TheVariants.{Written, LeftOut}
-use Rattle.tree_format.specs.Dialects.{version_row, prefixes_in}
-use Rattle.tree_format.specs.PlanText.{numbers, written, node_row, path_rows, chance_row, ceiling_rows, count_row, head_rows, text_in, ArePositions, IsPrintableKind, IsPrintableRecord, IsPrintable, IsNarrowKind, IsNarrowNode, IsNarrow, IsTextOfPlan}
+use Rattle.tree_format.specs.Dialects.{version_row, prefixes_in, numbers_in}
+use Rattle.tree_format.specs.PlanText.{numbers, written, node_row, path_rows, chance_row, ceiling_rows, count_row, head_rows, ArePositions, IsPrintableKind, IsPrintableRecord, IsPrintable, IsNarrowKind, IsNarrowNode, IsNarrow, IsTextOfPlan, plan_text}
 use Rattle.tree_format.specs.RecordParts.{bound_fields, reference_of}
 use Rattle.tree_format.specs.TextLaws.{PlanTextIsShort}
+use Rattle.tree_format.proofs.Families.{none_waits, no_ceiling}
 use Rattle.tree_format.proofs.LineTexts.{kind_text, head_parts, plan_parts}
 
 -- a number has at most 39 digits
@@ -37,6 +37,7 @@ bound_short (Closed (Whole n)) narrow = number_short n narrow
 bound_short (Closed (Mean b)) narrow = number_short b narrow
 bound_short (Closed (Tangent b reference)) narrow = number_short b narrow
 bound_short (Closed (Edge b)) narrow = number_short b narrow
+bound_short (Closed (Exchange b u)) narrow = number_short b narrow
 bound_short (Waiting n) narrow = number_short n narrow
 
 chance_short : (value weight : ℕ) → value < 2 ^ 128 → weight < 2 ^ 128 → length (text_of (chance_row value weight ∷ [])) ≤ 87
@@ -50,6 +51,7 @@ count_short n narrow = omega (arith, length-append (decimal n) (10 ∷ []), digi
 first_short : (v : Dialect) → length (text_of (version_row v ∷ [])) ≤ 7
 first_short PlanOne = omega arith
 first_short PlanTwo = omega arith
+first_short PlanThree = omega arith
 first_short GapOne = omega arith
 first_short GapTwo = omega arith
 
@@ -77,6 +79,9 @@ module _ (p : Problem) (sound : IsProblem p) where
   reference_short (Closed (Mean b)) printable = omega arith
   reference_short (Closed (Tangent b reference)) printable = numbers_short reference printable.0 (omega (arith, printable.1, sound.horizon))
   reference_short (Closed (Edge b)) printable = omega arith
+  reference_short (Closed (Exchange b u)) printable =
+      let P : ℕ → Type 0 = λ a. a < p.positions in
+      numbers_short (u ∷ []) (All-cons P u [] printable (All-nil P)) (omega arith)
   reference_short (Waiting n) printable = omega arith
 
   -- a record: its letter, a number, two lists of positions, and the line feed
@@ -112,8 +117,8 @@ module _ (p : Problem) (sound : IsProblem p) where
       let line : text_of (row ∷ []) ≡ (codes "path" ++ spaced names) ++ 10 ∷ [] = ap (λ (x : List ℕ). x ++ 10 ∷ []) (join-fields (codes "path") names) in
       omega (arith, ap length (text_of-append (version_row v ∷ []) (row ∷ [])), length-append (text_of (version_row v ∷ [])) (text_of (row ∷ [])), ap length line, length-append (codes "path" ++ spaced names) (10 ∷ []), first_short v, names_short q places short)
 
-  -- the text of either version, which has no ceiling
-  text_in-short : (v : Dialect) (plan : Plan) → ceiling_rows v plan.standing.value ≡ [] → IsPrintable p plan → IsNarrow plan → length (text_in v p (gap_of Means plan)) ≤ 949 + length plan.tree * 298
+  -- the text of a dialect of plans, which has no ceiling
+  text_in-short : (v : Dialect) (plan : Plan) → ceiling_rows v plan.standing.value ≡ [] → IsPrintable p plan → IsNarrow plan → length (plan_text v p plan) ≤ 949 + length plan.tree * 298
   text_in-short v plan none printable narrow =
       let s = plan.standing in
       let path = path_short v s.path printable.positions printable.short in
@@ -131,11 +136,10 @@ module _ (p : Problem) (sound : IsProblem p) where
       (text_of (head_rows v p s plan.weight s.value (length plan.tree)))
       (text_of (map (λ r. node_row v (closed_node r)) plan.tree))
       (codes "end" ++ 10 ∷ []) in
-      omega (arith, ap length (plan_parts v p Means plan), parts, ap length (head_parts v p s plan.weight s.value (length plan.tree)), head, path, chance, ceiling, count, records)
+      omega (arith, ap length (plan_parts v p (numbers_in v) plan), parts, ap length (head_parts v p s plan.weight s.value (length plan.tree)), head, path, chance, ceiling, count, records)
 
   text_short : (plan : Plan) (text : List ℕ) → IsTextOfPlan p plan text → length text ≤ 949 + length plan.tree * 298
-  text_short plan text (inl one) = omega (arith, ap length one.spelled, text_in-short PlanOne plan refl one.printable one.narrow)
-  text_short plan text (inr two) = omega (arith, ap length two.spelled, text_in-short PlanTwo plan refl two.printable two.narrow)
+  text_short plan text (v, plans, is) = omega (arith, ap length is.spelled, text_in-short v plan (no_ceiling v plan.standing.value (none_waits v plans)) is.printable is.narrow)
 
 pub plan_text_is_short : PlanTextIsShort
 plan_text_is_short p plan text sound is = text_short p sound plan text is

@@ -1,5 +1,5 @@
 -- Where a line has each kind of fault, as a table: the first kind whose test holds decides.
-use Rattle.std.specs.Prelude.{ℕ, ◌≡◌, ◌+◌, Bool, false, not, ◌&&◌, ◌||◌, ◌==◌, nat_le, if◌then◌else◌, List, [], ◌∷◌, length, Option, is_none, unwrap_or, codes}
+use Rattle.std.specs.Prelude.{ℕ, ◌≡◌, ◌+◌, Bool, false, not, ◌&&◌, ◌||◌, ◌==◌, nat_le, if◌then◌else◌, List, [], ◌∷◌, length, Option, Some, None, is_none, unwrap_or, codes}
 use Rattle.std.specs.List.{list_any}
 use Rattle.search_model.specs.Problem.{Problem, position_named}
 use Rattle.bound_tree.specs.Places.{first_of}
@@ -8,11 +8,13 @@ use Rattle.tree_format.specs.declared.plan_line.Dialect.{Dialect}
 use Rattle.tree_format.specs.declared.plan_line.Family.{Family}
 use Rattle.tree_format.specs.declared.plan_line.Prefixes.{Prefixes}
 use Rattle.tree_format.specs.declared.plan_line.Prefixes.TheVariants.{Written, LeftOut}
-use Rattle.tree_format.specs.Dialects.{family_of, dialects_of, word_of, version_of, most_records, has_edges, has_open, prefixes_in}
+use Rattle.tree_format.specs.Dialects.{family_of, dialects_of, word_of, version_of, most_records, prefixes_in}
 use Rattle.tree_format.specs.declared.plan_line.Stage.{Stage}
 use Rattle.tree_format.specs.declared.plan_line.Stage.TheVariants as due
 use Rattle.tree_format.specs.declared.kind.PlanKind.{PlanKind}
 use Rattle.tree_format.specs.declared.kind.PlanKind.TheVariants.{BadLine, BadNumber, UnknownName, TooManyNodes, WrongCount, NoPlace, StillOpen}
+use Rattle.tree_format.specs.declared.record_lines.Numbered.{Numbered}
+use Rattle.tree_format.specs.Letters.{referred, numbered_by}
 use Rattle.tree_format.specs.Reading.{amount_in, place_in, most_positions, is_end, line_at}
 use Rattle.text_rows.specs.Fields.{is_word, behind_first, first_alone}
 use Rattle.text_rows.specs.Kinds.{first_kind, fault_of}
@@ -44,26 +46,23 @@ abbrev pub count_form : List (List ℕ) → Bool
 count_form (word ∷ n ∷ []) = is_word word (codes "nodes")
 count_form _ = false
 
--- a number, and a prefix of at most so many positions behind it
-abbrev pub bounded_form : ℕ → List (List ℕ) → Bool
-bounded_form most [] = false
-bounded_form most (n ∷ positions) = nat_le (length positions) most
+-- a number, and behind it a prefix of at most so many positions and so many positions more
+abbrev pub bounded_form : ℕ → ℕ → List (List ℕ) → Bool
+bounded_form most long [] = false
+bounded_form most long (n ∷ positions) = nat_le long (length positions) && nat_le (length positions) (most + long)
 
--- a number, and a prefix and a reference behind it
-abbrev pub tangent_form : Problem → ℕ → List (List ℕ) → Bool
-tangent_form p most [] = false
-tangent_form p most (n ∷ positions) = nat_le p.horizon (length positions) && nat_le (length positions) (most + p.horizon)
+-- where the dialect has the letter
+abbrev pub numbered_form : Problem → ℕ → Option Numbered → List (List ℕ) → Bool
+numbered_form p most None fields = false
+numbered_form p most (Some kind) fields = bounded_form most (referred p kind) fields
 
--- a record, by its letter; not all dialects have `E` and `O`
+-- a record, by its letter
 abbrev pub node_form : Problem → Dialect → List (List ℕ) → Bool
 node_form p v [] = false
 node_form p v (letter ∷ fields) =
-    if is_word letter (codes "B") then nat_le (length fields) (most_positions p (prefixes_in v)) else
-    (if is_word letter (codes "W") then bounded_form (most_positions p (prefixes_in v)) fields else
-    (if is_word letter (codes "M") then bounded_form (most_positions p (prefixes_in v)) fields else
-    (if is_word letter (codes "T") then tangent_form p (most_positions p (prefixes_in v)) fields else
-    (if is_word letter (codes "E") && has_edges v then bounded_form (most_positions p (prefixes_in v)) fields else
-    (if is_word letter (codes "O") && has_open v then bounded_form (most_positions p (prefixes_in v)) fields else false)))))
+    if is_word letter (codes "B")
+    then nat_le (length fields) (most_positions p (prefixes_in v))
+    else numbered_form p (most_positions p (prefixes_in v)) (numbered_by v letter) fields
 
 -- the form of a line that may stand where this is due
 abbrev pub has_form : Problem → Dialect → Stage → List (List ℕ) → Bool

@@ -2,8 +2,8 @@ pub mod Dialects
 pub mod PlanText
 pub mod RecordParts
 pub mod Kinds
+pub mod Letters
 pub mod Reading
-pub mod LetterLines
 pub mod Gathering
 pub mod FeedSteps
 pub mod Feeding

@@ -1,28 +1,27 @@
--- The text of a plan: it has one spelling of version 1 where no record is an edge bound, and one of version 2 where its
--- records have the prefixes that are expected. A gap plan has one spelling, of the version of its numbers, where its nodes
--- have the prefixes that are expected. A plan is written as the gap plan in which all nodes are closed and the ceiling is the
--- value.
-use Rattle.std.specs.Prelude.{ℕ, ◌^◌, ◌≡◌, ◌⊎◌, ◌<◌, ◌≤◌, if◌then◌else◌, List, [], ◌∷◌, ◌++◌, map, length, codes, All}
+-- The text of a plan: it has one spelling of each version that has letters for its records, where these have the prefixes that
+-- are expected if the version leaves them out. A gap plan has one spelling, of the version of its numbers, where its nodes
+-- have letters and the prefixes that are expected. A plan is written as the gap plan in which all nodes are closed and the
+-- ceiling is the value.
+use Rattle.std.specs.Prelude.{ℕ, ◌^◌, ◌≡◌, ◌<◌, ◌≤◌, true, if◌then◌else◌, List, [], ◌∷◌, ◌++◌, map, length, codes, All}
 use Rattle.std.specs.Fmt.{decimal}
 use Rattle.text_rows.specs.Rows.{text_of}
 use Rattle.search_model.specs.declared.standing.Standing.{Standing}
 use Rattle.search_model.specs.Problem.{Problem, position_name}
 use Rattle.bound_tree.specs.declared.node.Kind.{Kind}
-use Rattle.bound_tree.specs.declared.node.Kind.TheVariants.{Branch, Whole, Mean, Tangent, Edge}
+use Rattle.bound_tree.specs.declared.node.Kind.TheVariants.{Branch, Whole, Mean, Tangent, Edge, Exchange}
 use Rattle.bound_tree.specs.declared.node.TreeNode.{TreeNode}
 use Rattle.bound_tree.specs.declared.plan.Plan.{Plan}
 use Rattle.bound_tree.specs.declared.gap.GapKind.{GapKind}
 use Rattle.bound_tree.specs.declared.gap.GapKind.TheVariants.{Closed, Waiting}
 use Rattle.bound_tree.specs.declared.gap.GapNode.{GapNode}
-use Rattle.bound_tree.specs.declared.gap.Numbers.TheVariants.{Means}
 use Rattle.bound_tree.specs.declared.gap.GapPlan.{GapPlan}
 use Rattle.bound_tree.specs.Gaps.{shape_of, gap_of}
 use Rattle.bound_tree.specs.Places.{AreInPlace}
 use Rattle.tree_format.specs.declared.plan_line.Dialect.{Dialect}
-use Rattle.tree_format.specs.declared.plan_line.Dialect.TheVariants.{PlanOne, PlanTwo}
+use Rattle.tree_format.specs.declared.plan_line.Family.TheVariants.{Plans}
 use Rattle.tree_format.specs.declared.plan_line.Prefixes.{Prefixes}
 use Rattle.tree_format.specs.declared.plan_line.Prefixes.TheVariants.{Written, LeftOut}
-use Rattle.tree_format.specs.Dialects.{version_row, has_open, prefixes_in, dialect_with}
+use Rattle.tree_format.specs.Dialects.{family_of, version_row, has_edges, has_exchanges, has_open, prefixes_in, numbers_in, dialect_with, plan_dialect_for}
 use Rattle.tree_format.specs.declared.dialects.TheConstants.{MOST_GAP_NODES}
 use Rattle.bound_tree.specs.declared.tree.TheConstants.{MOST_NODES}
 
@@ -30,13 +29,14 @@ use Rattle.bound_tree.specs.declared.tree.TheConstants.{MOST_NODES}
 abbrev pub numbers : List ℕ → List (List ℕ)
 numbers q = map decimal q
 
--- a record: its letter, its number where it has one, its prefix, and the positions of a reference
+-- a record: its letter, its number where it has one, its prefix, and the positions that it refers to
 abbrev pub kind_fields : List ℕ → Kind → List (List ℕ)
 kind_fields q Branch = codes "B" ∷ numbers q
 kind_fields q (Whole value) = codes "W" ∷ decimal value ∷ numbers q
 kind_fields q (Mean bound) = codes "M" ∷ decimal bound ∷ numbers q
 kind_fields q (Tangent bound reference) = codes "T" ∷ decimal bound ∷ (numbers q ++ numbers reference)
 kind_fields q (Edge bound) = codes "E" ∷ decimal bound ∷ numbers q
+kind_fields q (Exchange bound u) = codes "X" ∷ decimal bound ∷ (numbers q ++ decimal u ∷ [])
 
 -- a node that waits has its number as a bound
 abbrev pub node_fields : List ℕ → GapKind → List (List ℕ)
@@ -81,11 +81,9 @@ plan_rows v p plan =
 abbrev pub text_in : Dialect → Problem → GapPlan → List ℕ
 text_in v p plan = text_of (plan_rows v p plan)
 
-abbrev pub plan_text : Problem → Plan → List ℕ
-plan_text p plan = text_in PlanOne p (gap_of Means plan)
-
-abbrev pub plan_text_2 : Problem → Plan → List ℕ
-plan_text_2 p plan = text_in PlanTwo p (gap_of Means plan)
+-- that of a plan
+abbrev pub plan_text : Dialect → Problem → Plan → List ℕ
+plan_text v p plan = text_in v p (gap_of (numbers_in v) plan)
 
 -- that of a gap plan is of the dialect of its numbers
 abbrev pub gap_text : Problem → GapPlan → List ℕ
@@ -95,13 +93,14 @@ gap_text p plan = text_in (dialect_with plan.numbers) p plan
 abbrev pub ArePositions : Problem → List ℕ → Type 0
 ArePositions p q = All (λ a. a < p.positions) q
 
--- a reference is as long as the horizon
+-- a reference is as long as the horizon, and what takes a place is a position
 abbrev pub IsPrintableKind : Problem → Kind → Type 0
 IsPrintableKind p Branch = Unit {0}
 IsPrintableKind p (Whole value) = Unit {0}
 IsPrintableKind p (Mean bound) = Unit {0}
 IsPrintableKind p (Tangent bound reference) = ArePositions p reference × (length reference ≡ p.horizon)
 IsPrintableKind p (Edge bound) = Unit {0}
+IsPrintableKind p (Exchange bound u) = u < p.positions
 
 -- a record whose prefix is within the horizon
 pub record IsPrintableRecord (p : Problem) (r : TreeNode) : Type 0 where
@@ -124,41 +123,55 @@ IsNarrowKind (Whole value) = value < 2 ^ 128
 IsNarrowKind (Mean bound) = bound < 2 ^ 128
 IsNarrowKind (Tangent bound reference) = bound < 2 ^ 128
 IsNarrowKind (Edge bound) = bound < 2 ^ 128
+IsNarrowKind (Exchange bound u) = bound < 2 ^ 128
 
 pub record IsNarrow (plan : Plan) : Type 0 where
   pub value : plan.standing.value < 2 ^ 128
   pub weight : plan.weight < 2 ^ 128
   pub records : All (λ r. IsNarrowKind r.kind) plan.tree
 
--- a record of any kind but an edge bound
-abbrev pub IsNoEdge : Kind → Type 0
-IsNoEdge Branch = Unit {0}
-IsNoEdge (Whole value) = Unit {0}
-IsNoEdge (Mean bound) = Unit {0}
-IsNoEdge (Tangent bound reference) = Unit {0}
-IsNoEdge (Edge bound) = ⊥
+-- a dialect has a letter for records of this kind
+abbrev pub HasLetter : Dialect → Kind → Type 0
+HasLetter v Branch = Unit {0}
+HasLetter v (Whole value) = Unit {0}
+HasLetter v (Mean bound) = Unit {0}
+HasLetter v (Tangent bound reference) = Unit {0}
+HasLetter v (Edge bound) = has_edges v ≡ true
+HasLetter v (Exchange bound u) = has_exchanges v ≡ true
 
--- for an edge bound version 1 has no letter, so it has a text of a plan none of whose records is one
-abbrev pub HasNoEdge : Plan → Type 0
-HasNoEdge plan = All (λ r. IsNoEdge r.kind) plan.tree
+-- and for nodes of this kind
+abbrev pub HasNodeLetter : Dialect → GapKind → Type 0
+HasNodeLetter v (Closed kind) = HasLetter v kind
+HasNodeLetter v (Waiting n) = has_open v ≡ true
 
--- the bytes are the one text of version 1 of this plan, which has one
-pub record IsPlanText (p : Problem) (plan : Plan) (text : List ℕ) : Type 0 where
+-- it has letters for all records of a plan
+abbrev pub HasLetters : Dialect → Plan → Type 0
+HasLetters v plan = All (λ r. HasLetter v r.kind) plan.tree
+
+-- the dialect of a gap plan's numbers has letters for all its nodes
+abbrev pub HasGapLetters : GapPlan → Type 0
+HasGapLetters plan = All (λ node. HasNodeLetter (dialect_with plan.numbers) node.kind) plan.nodes
+
+-- where a text leaves the prefixes of its records out, these have the prefixes that are expected
+abbrev pub HavePlaces : Prefixes → Problem → List (List ℕ) → List TreeNode → Type 0
+HavePlaces Written p expected records = Unit {0}
+HavePlaces LeftOut p expected records = AreInPlace p expected records
+
+-- the bytes are the one text of this dialect of this plan, which has one
+pub record IsPlanTextIn (v : Dialect) (p : Problem) (plan : Plan) (text : List ℕ) : Type 0 where
   pub printable : IsPrintable p plan
   pub narrow : IsNarrow plan
-  pub no_edge : HasNoEdge plan
-  pub spelled : text ≡ plan_text p plan
+  pub letters : HasLetters v plan
+  pub in_place : HavePlaces (prefixes_in v) p ([] ∷ []) plan.tree
+  pub spelled : text ≡ plan_text v p plan
 
--- they are the one text of version 2 of this plan, whose records have the prefixes that are expected
-pub record IsPlanText2 (p : Problem) (plan : Plan) (text : List ℕ) : Type 0 where
-  pub printable : IsPrintable p plan
-  pub narrow : IsNarrow plan
-  pub in_place : AreInPlace p ([] ∷ []) plan.tree
-  pub spelled : text ≡ plan_text_2 p plan
-
--- they are the text of this plan in one of the versions
+-- they are the text of this plan in one of the dialects of plans
 abbrev pub IsTextOfPlan : Problem → Plan → List ℕ → Type 0
-IsTextOfPlan p plan text = IsPlanText p plan text ⊎ IsPlanText2 p plan text
+IsTextOfPlan p plan text = (v : Dialect) × (family_of v ≡ Plans) × IsPlanTextIn v p plan text
+
+-- they are its text in the dialect that plans of the problem are written in
+abbrev pub IsWrittenPlan : Problem → Plan → List ℕ → Type 0
+IsWrittenPlan p plan text = IsPlanTextIn (plan_dialect_for p) p plan text
 
 -- the number of a node that waits is as narrow
 abbrev pub IsNarrowNode : GapKind → Type 0
@@ -166,13 +179,14 @@ IsNarrowNode (Closed kind) = IsNarrowKind kind
 IsNarrowNode (Waiting n) = n < 2 ^ 128
 
 -- what can be written of a gap plan and read again, where its nodes have the prefixes that are expected: a path of 1 to 32
--- positions, and at most 4,194,305 nodes
+-- positions, and at most 4,194,305 nodes, of kinds that have letters
 pub record IsPrintableGap (p : Problem) (plan : GapPlan) : Type 0 where
   pub some : 1 ≤ length plan.standing.path
   pub short : length plan.standing.path ≤ 32
   pub positions : ArePositions p plan.standing.path
   pub few : length plan.nodes ≤ MOST_GAP_NODES
   pub kinds : All (λ node. IsPrintableKind p (shape_of node).kind) plan.nodes
+  pub letters : HasGapLetters plan
 
 pub record IsNarrowGap (plan : GapPlan) : Type 0 where
   pub value : plan.standing.value < 2 ^ 128

@@ -5,10 +5,10 @@ use Rattle.exact_parts.specs.declared.number.Number.{Number}
 use Rattle.exact_parts.specs.declared.number.Number.TheVariants.{NotPlain, Above, Of}
 use Rattle.exact_parts.specs.Decimal.{number_at}
 use Rattle.search_model.specs.Problem.{Problem, position_named}
-use Rattle.bound_tree.specs.declared.node.Kind.TheVariants.{Branch, Whole, Mean, Tangent, Edge}
+use Rattle.bound_tree.specs.declared.node.Kind.TheVariants.{Branch}
 use Rattle.bound_tree.specs.declared.plan.Plan.{Plan}
 use Rattle.bound_tree.specs.declared.gap.GapKind.{GapKind}
-use Rattle.bound_tree.specs.declared.gap.GapKind.TheVariants.{Closed, Waiting}
+use Rattle.bound_tree.specs.declared.gap.GapKind.TheVariants.{Closed}
 use Rattle.bound_tree.specs.declared.gap.GapNode.{GapNode}
 use Rattle.bound_tree.specs.declared.gap.Numbers.TheVariants.{Means}
 use Rattle.bound_tree.specs.declared.gap.GapPlan.{GapPlan}
@@ -20,7 +20,7 @@ use Rattle.tree_format.specs.declared.plan_line.Dialect.{Dialect}
 use Rattle.tree_format.specs.declared.plan_line.Dialect.TheVariants.{PlanOne}
 use Rattle.tree_format.specs.declared.plan_line.Prefixes.{Prefixes}
 use Rattle.tree_format.specs.declared.plan_line.Prefixes.TheVariants.{Written, LeftOut}
-use Rattle.tree_format.specs.Dialects.{family_of, dialects_of, word_of, version_of, most_records, has_edges, has_open, prefixes_in, numbers_in}
+use Rattle.tree_format.specs.Dialects.{family_of, dialects_of, word_of, version_of, most_records, has_open, prefixes_in, numbers_in}
 use Rattle.tree_format.specs.declared.due.Due.{Due}
 use Rattle.tree_format.specs.declared.plan_line.Stage.{Stage}
 use Rattle.tree_format.specs.declared.plan_line.Stage.TheVariants as due
@@ -30,6 +30,8 @@ use Rattle.tree_format.specs.declared.kind.PlanKind.{PlanKind}
 use Rattle.tree_format.specs.declared.kind.PlanKind.TheVariants.{BadLine, BadNumber, UnknownName, TooManyNodes, WrongCount, EarlyEnd, Rest, NoPlace, StillOpen}
 use Rattle.tree_format.specs.declared.kind.PlanFault.{PlanFault}
 use Rattle.tree_format.specs.declared.record_lines.Bounded.{Bounded}
+use Rattle.tree_format.specs.declared.record_lines.Numbered.{Numbered}
+use Rattle.tree_format.specs.Letters.{referred, kind_with, numbered_by}
 use Rattle.text_rows.specs.Lines.{after_lines}
 use Rattle.text_rows.specs.Fields.{exact_fields, is_word}
 use Rattle.text_rows.specs.LineMachine.{LineMachine, Reached, read_from}
@@ -132,51 +134,42 @@ branch_of (Some q) = Ok (record { prefix = q; kind = Closed Branch })
 abbrev pub branch_line : Problem → ℕ → List (List ℕ) → Result GapNode PlanKind
 branch_line p most positions = if nat_le (length positions) most then branch_of (all_of (place_in p) positions) else Err BadLine
 
--- `W`, `M`, `E` and `O`, behind their letters
-abbrev pub bounded_of : Option ℕ → Option (List ℕ) → Result Bounded PlanKind
-bounded_of None q = Err BadNumber
-bounded_of (Some n) None = Err BadNumber
-bounded_of (Some n) (Some q) = Ok (record { bound = n; prefix = q })
+-- the other records, behind their letters
+abbrev pub bounded_of : Option ℕ → Option (List ℕ) → Option (List ℕ) → Result Bounded PlanKind
+bounded_of None q reference = Err BadNumber
+bounded_of (Some n) None reference = Err BadNumber
+bounded_of (Some n) (Some q) None = Err BadNumber
+bounded_of (Some n) (Some q) (Some reference) = Ok (record { bound = n; prefix = q; reference = reference })
 
--- at least the number, and at most so many positions
-abbrev pub bounded_line : Problem → ℕ → List (List ℕ) → Result Bounded PlanKind
-bounded_line p most [] = Err BadLine
-bounded_line p most (bound ∷ positions) = if nat_le (length positions) most then bounded_of (amount_in bound) (all_of (place_in p) positions) else Err BadLine
-
--- a record of that kind
-abbrev pub node_of : (ℕ → GapKind) → Result Bounded PlanKind → Result GapNode PlanKind
-node_of kind (Err fault) = Err fault
-node_of kind (Ok b) = Ok (record { prefix = b.prefix; kind = kind b.bound })
-
--- `T`, behind its letter: the last positions, as many as there are periods, are the reference
-abbrev pub tangent_of : Option ℕ → Option (List ℕ) → Option (List ℕ) → Result GapNode PlanKind
-tangent_of None q reference = Err BadNumber
-tangent_of (Some n) None reference = Err BadNumber
-tangent_of (Some n) (Some q) None = Err BadNumber
-tangent_of (Some n) (Some q) (Some reference) = Ok (record { prefix = q; kind = Closed (Tangent n reference) })
-
--- as many positions as periods, and at most so many more
-abbrev pub tangent_at : Problem → ℕ → List ℕ → List (List ℕ) → Result GapNode PlanKind
-tangent_at p most bound positions =
-    if nat_le p.horizon (length positions) && nat_le (length positions) (most + p.horizon)
-    then tangent_of (amount_in bound) (all_of (place_in p) (take (length positions - p.horizon) positions)) (all_of (place_in p) (drop (length positions - p.horizon) positions))
+-- the last positions are those that it refers to, and before these stand at most so many
+abbrev pub bounded_at : Problem → ℕ → ℕ → List ℕ → List (List ℕ) → Result Bounded PlanKind
+bounded_at p most long bound positions =
+    if nat_le long (length positions) && nat_le (length positions) (most + long)
+    then bounded_of (amount_in bound) (all_of (place_in p) (take (length positions - long) positions)) (all_of (place_in p) (drop (length positions - long) positions))
     else Err BadLine
 
 -- at least the number
-abbrev pub tangent_line : Problem → ℕ → List (List ℕ) → Result GapNode PlanKind
-tangent_line p most [] = Err BadLine
-tangent_line p most (bound ∷ positions) = tangent_at p most bound positions
+abbrev pub bounded_line : Problem → ℕ → ℕ → List (List ℕ) → Result Bounded PlanKind
+bounded_line p most long [] = Err BadLine
+bounded_line p most long (bound ∷ positions) = bounded_at p most long bound positions
+
+-- a record of that kind
+abbrev pub node_of : Numbered → Result Bounded PlanKind → Result GapNode PlanKind
+node_of kind (Err fault) = Err fault
+node_of kind (Ok b) = Ok (record { prefix = b.prefix; kind = kind_with kind b.bound b.reference })
+
+-- where a dialect has the letter
+abbrev pub numbered_line : Problem → ℕ → Option Numbered → List (List ℕ) → Result GapNode PlanKind
+numbered_line p most None fields = Err BadLine
+numbered_line p most (Some kind) fields = node_of kind (bounded_line p most (referred p kind) fields)
 
 -- a record, by its letter
 abbrev pub node_line : Problem → Dialect → List (List ℕ) → Result GapNode PlanKind
 node_line p v [] = Err BadLine
 node_line p v (letter ∷ fields) =
-    if is_word letter (codes "B") then branch_line p (most_positions p (prefixes_in v)) fields else
-    (if is_word letter (codes "W") then node_of (λ n. Closed (Whole n)) (bounded_line p (most_positions p (prefixes_in v)) fields) else
-    (if is_word letter (codes "M") then node_of (λ n. Closed (Mean n)) (bounded_line p (most_positions p (prefixes_in v)) fields) else
-    (if is_word letter (codes "T") then tangent_line p (most_positions p (prefixes_in v)) fields else
-    (if is_word letter (codes "E") && has_edges v then node_of (λ n. Closed (Edge n)) (bounded_line p (most_positions p (prefixes_in v)) fields) else
-    (if is_word letter (codes "O") && has_open v then node_of (λ n. Waiting n) (bounded_line p (most_positions p (prefixes_in v)) fields) else Err BadLine)))))
+    if is_word letter (codes "B")
+    then branch_line p (most_positions p (prefixes_in v)) fields
+    else numbered_line p (most_positions p (prefixes_in v)) (numbered_by v letter) fields
 
 -- where this prefix is expected next, a record has it
 abbrev pub placed_at : Option (List ℕ) → GapNode → Result PlanLine PlanKind

@@ -8,23 +8,19 @@ use Rattle.bound_tree.specs.Places.{AreInPlace}
 use Rattle.tree_format.specs.declared.plan_line.Family.{Family}
 use Rattle.tree_format.specs.declared.kind.PlanFault.{PlanFault}
 use Rattle.tree_format.specs.declared.due.Due.{Due}
-use Rattle.tree_format.specs.PlanText.{IsPrintable, IsNarrow, HasNoEdge, IsTextOfPlan, IsPrintableGap, IsNarrowGap, IsGapText, plan_text, plan_text_2, gap_text}
+use Rattle.tree_format.specs.PlanText.{IsTextOfPlan, IsPrintableGap, IsNarrowGap, IsGapText, gap_text}
 use Rattle.tree_format.specs.Reading.{line_at, text_at, plan_at, gap_at, summary_of}
 use Rattle.tree_format.specs.Faults.{IsFirstFault}
 
--- the text of version 1 of a plan without edge bounds reads back as the plan
+-- a text of a plan, in whichever dialect of plans, reads back as the plan
 abbrev pub PlanTextReadsBack : Type 0
-PlanTextReadsBack = (p : Problem) (plan : Plan) → IsProblem p → IsPrintable p plan → IsNarrow plan → HasNoEdge plan → plan_at p (plan_text p plan) ≡ Ok plan
-
--- and so does the text of version 2, where the records have the prefixes that are expected
-abbrev pub PlanText2ReadsBack : Type 0
-PlanText2ReadsBack = (p : Problem) (plan : Plan) → IsProblem p → IsPrintable p plan → IsNarrow plan → AreInPlace p ([] ∷ []) plan.tree → plan_at p (plan_text_2 p plan) ≡ Ok plan
+PlanTextReadsBack = (p : Problem) (plan : Plan) (text : List ℕ) → IsProblem p → IsTextOfPlan p plan text → plan_at p text ≡ Ok plan
 
 -- and so does the text of a gap plan, where the nodes have the prefixes that are expected
 abbrev pub GapTextReadsBack : Type 0
 GapTextReadsBack = (p : Problem) (plan : GapPlan) → IsProblem p → IsPrintableGap p plan → IsNarrowGap plan → AreInPlace p ([] ∷ []) (map shape_of plan.nodes) → gap_at p (gap_text p plan) ≡ Ok plan
 
--- what is read as a plan is the text of that plan in one of the versions
+-- what is read as a plan is the text of that plan in one of the dialects of plans
 abbrev pub OneTextAPlan : Type 0
 OneTextAPlan = (p : Problem) (plan : Plan) (text : List ℕ) → IsProblem p → plan_at p text ≡ Ok plan → IsTextOfPlan p plan text
 

@@ -1,10 +1,11 @@
 //! What the dialects differ in.
 
 ghost use Rattle.std.specs.Prelude.{◌≡◌, ◌≤◌};
-ghost use Rattle.tree_format.specs.Dialects.{family_of as family_of_lem, most_records as most_records_lem, first_line as first_line_lem, has_edges as has_edges_lem, has_open as has_open_lem, prefixes_in as prefixes_in_lem, numbers_in as numbers_in_lem, dialect_with};
+ghost use Rattle.tree_format.specs.Dialects.{family_of as family_of_lem, most_records as most_records_lem, first_line as first_line_lem, has_edges as has_edges_lem, has_exchanges as has_exchanges_lem, has_open as has_open_lem, prefixes_in as prefixes_in_lem, numbers_in as numbers_in_lem, dialect_with, plan_dialect_for};
 
 use crate::plan_line::{Dialect, Family, Prefixes};
 use bound_tree::{MOST_NODES, Numbers};
+use search_model::Scenario;
 
 /// The most nodes that a gap plan may have: as many as 65,536 records of 64 children each leave.
 pub const MOST_GAP_NODES: u64 = 4_194_305;
@@ -14,7 +15,7 @@ pub fn family_of(dialect: Dialect) -> Family
     ensures { result ≡ family_of_lem dialect }
 {
     match dialect {
-        Dialect::PlanOne | Dialect::PlanTwo => Family::Plans,
+        Dialect::PlanOne | Dialect::PlanTwo | Dialect::PlanThree => Family::Plans,
         Dialect::GapOne | Dialect::GapTwo => Family::Gaps,
     }
 }
@@ -46,7 +47,17 @@ pub fn has_edges(dialect: Dialect) -> bool
 {
     match dialect {
         Dialect::PlanOne => false,
-        Dialect::PlanTwo | Dialect::GapOne | Dialect::GapTwo => true,
+        Dialect::PlanTwo | Dialect::PlanThree | Dialect::GapOne | Dialect::GapTwo => true,
+    }
+}
+
+/// Whether it may have records of exchanges.
+pub fn has_exchanges(dialect: Dialect) -> bool
+    ensures { result ≡ has_exchanges_lem dialect }
+{
+    match dialect {
+        Dialect::PlanOne | Dialect::PlanTwo | Dialect::GapOne => false,
+        Dialect::PlanThree | Dialect::GapTwo => true,
     }
 }
 
@@ -55,7 +66,7 @@ pub fn has_open(dialect: Dialect) -> bool
     ensures { result ≡ has_open_lem dialect }
 {
     match dialect {
-        Dialect::PlanOne | Dialect::PlanTwo => false,
+        Dialect::PlanOne | Dialect::PlanTwo | Dialect::PlanThree => false,
         Dialect::GapOne | Dialect::GapTwo => true,
     }
 }
@@ -66,7 +77,9 @@ pub fn prefixes_in(dialect: Dialect) -> Prefixes
 {
     match dialect {
         Dialect::PlanOne => Prefixes::Written,
-        Dialect::PlanTwo | Dialect::GapOne | Dialect::GapTwo => Prefixes::LeftOut,
+        Dialect::PlanTwo | Dialect::PlanThree | Dialect::GapOne | Dialect::GapTwo => {
+            Prefixes::LeftOut
+        }
     }
 }
 
@@ -75,7 +88,9 @@ pub fn numbers_in(dialect: Dialect) -> Numbers
     ensures { result ≡ numbers_in_lem dialect }
 {
     match dialect {
-        Dialect::PlanOne | Dialect::PlanTwo | Dialect::GapOne => Numbers::Means,
+        Dialect::PlanOne | Dialect::PlanTwo | Dialect::PlanThree | Dialect::GapOne => {
+            Numbers::Means
+        }
         Dialect::GapTwo => Numbers::Edges,
     }
 }
@@ -87,5 +102,16 @@ pub fn gap_dialect(numbers: Numbers) -> Dialect
     match numbers {
         Numbers::Means => Dialect::GapOne,
         Numbers::Edges => Dialect::GapTwo,
+    }
+}
+
+/// The dialect that the plans of a scenario are written in: from horizon 4 on version 3, else version 2.
+pub fn plan_dialect(sc: &Scenario) -> Dialect
+    ensures { result ≡ plan_dialect_for sc.now }
+{
+    if sc.horizon() < 4 {
+        Dialect::PlanTwo
+    } else {
+        Dialect::PlanThree
     }
 }

@@ -22,6 +22,7 @@ fn push_version(out: &mut Vec<u8>, dialect: Dialect) -> Result<(), NoMemory>
     match dialect {
         Dialect::PlanOne => push_row(out, b"plan", &[Field::Word(b"1")]),
         Dialect::PlanTwo => push_row(out, b"plan", &[Field::Word(b"2")]),
+        Dialect::PlanThree => push_row(out, b"plan", &[Field::Word(b"3")]),
         Dialect::GapOne => push_row(out, b"gap", &[Field::Word(b"1")]),
         Dialect::GapTwo => push_row(out, b"gap", &[Field::Word(b"2")]),
     }

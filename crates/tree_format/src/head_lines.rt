@@ -17,6 +17,8 @@ fn plan_of(number: &[u8]) -> Result<PlanLine, PlanKind>
         Ok(PlanLine::Version(Dialect::PlanOne))
     } else if number == b"2".as_slice() {
         Ok(PlanLine::Version(Dialect::PlanTwo))
+    } else if number == b"3".as_slice() {
+        Ok(PlanLine::Version(Dialect::PlanThree))
     } else {
         Err(PlanKind::BadLine)
     }
@@ -35,7 +37,7 @@ fn gap_of(number: &[u8]) -> Result<PlanLine, PlanKind>
     }
 }
 
-// `plan 1` or `plan 2`
+// `plan 1`, `plan 2` or `plan 3`
 fn plan_version(fields: &[&[u8]]) -> Result<PlanLine, PlanKind>
     ensures { result ≡ version_line Family.Plans (map (λ f. f.now) fields.now) }
 {

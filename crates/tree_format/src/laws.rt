@@ -1,19 +1,12 @@
 //! Laws over the definitions.
 
 ghost use Rattle.tree_format.specs.KindTable.{KindsByTable};
-ghost use Rattle.tree_format.specs.ReadingLaws.{PlanTextReadsBack, PlanText2ReadsBack, GapTextReadsBack, OneTextAPlan, OneTextAGap, OnePlanAText, OneGapAText, FirstFaultDecides, SummaryDecides};
+ghost use Rattle.tree_format.specs.ReadingLaws.{PlanTextReadsBack, GapTextReadsBack, OneTextAPlan, OneTextAGap, OnePlanAText, OneGapAText, FirstFaultDecides, SummaryDecides};
 ghost use Rattle.tree_format.specs.TextLaws.{PlanTextIsShort, SameSearchSameTexts, SameSearchSameGapText};
 
-/// The text of version 1 of a plan without edge bounds reads back as that plan.
-#[tactic(auto, using(crate::proofs::ReadsBack::plan_text_reads_back))]
+/// A text of a plan, in whichever dialect of plans, reads back as that plan.
 pub fn plan_text_reads_back()
     ensures { PlanTextReadsBack }
-{}
-
-/// And so does the text of version 2 of a plan whose records have the prefixes that are expected.
-#[tactic(auto, using(crate::proofs::ReadsBack::plan_text_2_reads_back))]
-pub fn plan_text_2_reads_back()
-    ensures { PlanText2ReadsBack }
 {}
 
 /// And so does the text of a gap plan whose nodes have the prefixes that are expected.
@@ -22,7 +15,7 @@ pub fn gap_text_reads_back()
     ensures { GapTextReadsBack }
 {}
 
-/// What is read as a plan is the text of that plan in one of the versions: a plan has at most one in each.
+/// What is read as a plan is the text of that plan in one of the dialects of plans: a plan has at most one in each.
 #[tactic(auto, using(crate::proofs::Spelled::one_text_a_plan))]
 pub fn one_text_a_plan()
     ensures { OneTextAPlan }

@@ -1,10 +1,13 @@
-//! Whether a plan has a text of each version.
+//! Whether a plan has a text of a dialect.
 
 ghost use Rattle.std.specs.Prelude.{◌≡◌, ◌↔◌, ◌∷◌, [], IsTrue, IfOk, All};
 ghost use Rattle.bound_tree.specs.Places.{AreInPlace};
-ghost use Rattle.tree_format.specs.PlanText.{IsNoEdge, HasNoEdge};
+ghost use Rattle.tree_format.specs.Dialects.{prefixes_in as prefixes_in_lem};
+ghost use Rattle.tree_format.specs.PlanText.{HasLetter, HasLetters, HavePlaces};
 
+use crate::dialects::{has_edges, has_exchanges, prefixes_in};
 use crate::places::Places;
+use crate::plan_line::{Dialect, Prefixes};
 use bound_tree::{Kind, Plan, TreeNode};
 use exact_parts::NoMemory;
 use search_model::Scenario;
@@ -24,37 +27,49 @@ fn have_places(places: Places, sc: &Scenario, records: &[TreeNode]) -> bool
     places.first().is_none()
 }
 
-/// Whether a plan has a text of version 2: its records have the prefixes that are expected.
-pub fn are_in_place(alloc: Global, sc: &Scenario, plan: &Plan) -> Result<bool, NoMemory>
-    ensures { IfOk result (λ yes. IsTrue yes ↔ AreInPlace sc.now ([] ∷ []) plan.now.tree) }
+/// Whether the records of a plan have the prefixes that are expected, where a dialect leaves these out.
+pub fn are_in_place(
+    alloc: Global,
+    sc: &Scenario,
+    dialect: Dialect,
+    plan: &Plan,
+) -> Result<bool, NoMemory>
+    ensures { IfOk result (λ yes. IsTrue yes ↔ HavePlaces (prefixes_in_lem dialect) sc.now ([] ∷ []) plan.now.tree) }
 {
-    let places = Places::start(alloc)?;
-    Ok(have_places(places, sc, plan.tree.nodes()))
-}
-
-fn is_no_edge(kind: &Kind) -> bool
-    ensures { IsTrue result ↔ IsNoEdge kind.now }
-{
-    match kind {
-        Kind::Branch | Kind::Whole(_) | Kind::Mean(_) | Kind::Tangent(..) => true,
-        Kind::Edge(_) => false,
+    match prefixes_in(dialect) {
+        Prefixes::Written => Ok(true),
+        Prefixes::LeftOut => {
+            let places = Places::start(alloc)?;
+            Ok(have_places(places, sc, plan.tree.nodes()))
+        }
     }
 }
 
-fn have_no_edge(records: &[TreeNode]) -> bool
-    ensures { IsTrue result ↔ All (λ r. IsNoEdge r.kind) records.now }
+// Whether a dialect has a letter for records of this kind.
+fn has_letter(dialect: Dialect, kind: &Kind) -> bool
+    ensures { IsTrue result ↔ HasLetter dialect kind.now }
+{
+    match kind {
+        Kind::Branch | Kind::Whole(_) | Kind::Mean(_) | Kind::Tangent(..) => true,
+        Kind::Edge(_) => has_edges(dialect),
+        Kind::Exchange(..) => has_exchanges(dialect),
+    }
+}
+
+fn have_letters(dialect: Dialect, records: &[TreeNode]) -> bool
+    ensures { IsTrue result ↔ All (λ r. HasLetter dialect r.kind) records.now }
 {
     for node in records {
-        if !is_no_edge(&node.kind) {
+        if !has_letter(dialect, &node.kind) {
             return false;
         }
     }
     true
 }
 
-/// Whether a plan has a text of version 1: none of its records is an edge bound.
-pub fn has_no_edge(plan: &Plan) -> bool
-    ensures { IsTrue result ↔ HasNoEdge plan.now }
+/// Whether a dialect has letters for all records of a plan.
+pub fn has_letters(dialect: Dialect, plan: &Plan) -> bool
+    ensures { IsTrue result ↔ HasLetters dialect plan.now }
 {
-    have_no_edge(plan.tree.nodes())
+    have_letters(dialect, plan.tree.nodes())
 }

@@ -17,9 +17,11 @@ pub enum Dialect {
     PlanOne,
     /// `plan 2`: a record's prefix is the one that is expected.
     PlanTwo,
+    /// `plan 3`: as `plan 2`, with records of exchanges.
+    PlanThree,
     /// `gap 1`: as `plan 2`, with a ceiling and nodes that wait, whose numbers are mean bounds.
     GapOne,
-    /// `gap 2`: as `gap 1`, and the numbers of nodes that wait are edge bounds.
+    /// `gap 2`: as `gap 1`, with records of exchanges, and the numbers of nodes that wait are edge bounds.
     GapTwo,
 }
 
@@ -35,7 +37,7 @@ pub enum Prefixes {
 /// The line that is due.
 #[derive(Clone, Copy, Debug, PartialEq, Eq)]
 pub enum Stage {
-    /// The first line: `plan 1`, `plan 2`, `gap 1` or `gap 2`
+    /// The first line: `plan 1`, `plan 2`, `plan 3`, `gap 1` or `gap 2`
     Version(Family),
     /// `path NAME ..`
     Path,
@@ -54,7 +56,7 @@ pub enum Stage {
 /// What a line says.
 #[derive(Clone, Copy)]
 pub enum PlanLine {
-    /// `plan 1`, `plan 2`, `gap 1` or `gap 2`
+    /// `plan 1`, `plan 2`, `plan 3`, `gap 1` or `gap 2`
     Version(Dialect),
     /// The path of the standing.
     Path(Path),

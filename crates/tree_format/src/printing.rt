@@ -3,11 +3,11 @@
 ghost use Rattle.std.specs.Prelude.{◌≡◌, ◌∷◌, [], ◌++◌, map, OnOk, OnErr};
 ghost use Rattle.exact_parts.specs.Appending.{Begins};
 ghost use Rattle.bound_tree.specs.Places.{AreInPlace};
-ghost use Rattle.tree_format.specs.PlanText.{IsPrintable, IsNarrow, HasNoEdge, IsPlanText, IsPlanText2, IsPrintableGap, IsNarrowGap, IsGapText, text_in, plan_text, plan_text_2, gap_text};
+ghost use Rattle.tree_format.specs.PlanText.{IsPrintable, IsNarrow, HasLetters, HavePlaces, IsPlanTextIn, IsWrittenPlan, IsPrintableGap, IsNarrowGap, IsGapText, plan_text, gap_text};
 ghost use Rattle.bound_tree.specs.Gaps.{shape_of, gap_of, numbers_for as numbers_for_lem};
-ghost use Rattle.tree_format.specs.Dialects.{numbers_in, dialect_with};
+ghost use Rattle.tree_format.specs.Dialects.{prefixes_in, dialect_with, plan_dialect_for};
 
-use crate::dialects::gap_dialect;
+use crate::dialects::{gap_dialect, plan_dialect};
 use crate::head::push_head;
 use crate::plan_line::Dialect;
 use crate::records::{push_nodes, push_records};
@@ -24,7 +24,7 @@ fn push_plan(
     plan: &Plan,
 ) -> Result<(), NoMemory>
     requires { IsPrintable sc.now plan.now }
-    ensures ok { OnOk result (out.new.items ≡ out.old.items ++ text_in dialect sc.now (gap_of (numbers_in dialect) plan.now)) }
+    ensures ok { OnOk result (out.new.items ≡ out.old.items ++ plan_text dialect sc.now plan.now) }
     ensures err { OnErr result (Begins out.old.items out.new.items) }
     ensures narrow { OnOk result (IsNarrow plan.now) }
 {
@@ -43,7 +43,32 @@ fn push_plan(
     Ok(())
 }
 
-/// Appends the text of version 1 of a plan none of whose records is an edge bound, the one spelling that it has in this
+/// Appends the text of this dialect of a plan for whose records it has letters, the one spelling that the plan has in it; of
+/// a dialect that leaves prefixes out, the records have those that are expected. A text of plans reads back as that plan, one
+/// of gap plans as the gap plan that the plan is.
+///
+/// # Errors
+///
+/// `NoMemory`: `out` is then as it was.
+pub fn print_plan_in(
+    out: &mut Vec<u8>,
+    dialect: Dialect,
+    sc: &Scenario,
+    plan: &Plan,
+) -> Result<(), NoMemory>
+    requires printable { IsPrintable sc.now plan.now }
+    requires letters { HasLetters dialect plan.now }
+    requires in_place { HavePlaces (prefixes_in dialect) sc.now ([] ∷ []) plan.now.tree }
+    ensures ok { OnOk result (out.new.items ≡ out.old.items ++ plan_text dialect sc.now plan.now) }
+    ensures err { OnErr result (out.new.items ≡ out.old.items) }
+    ensures spelled { OnOk result (IsPlanTextIn dialect sc.now plan.now (plan_text dialect sc.now plan.now)) }
+{
+    let len = out.len();
+    let appended = push_plan(out, dialect, sc, plan);
+    cut_if_refused(out, len, appended)
+}
+
+/// Appends the text of version 1 of a plan that has letters for its records there, the one spelling that it has in this
 /// version. It reads back as that plan.
 ///
 /// # Errors
@@ -51,36 +76,34 @@ fn push_plan(
 /// `NoMemory`: `out` is then as it was.
 pub fn print_plan(out: &mut Vec<u8>, sc: &Scenario, plan: &Plan) -> Result<(), NoMemory>
     requires printable { IsPrintable sc.now plan.now }
-    requires no_edge { HasNoEdge plan.now }
-    ensures ok { OnOk result (out.new.items ≡ out.old.items ++ plan_text sc.now plan.now) }
+    requires letters { HasLetters Dialect.PlanOne plan.now }
+    ensures ok { OnOk result (out.new.items ≡ out.old.items ++ plan_text Dialect.PlanOne sc.now plan.now) }
     ensures err { OnErr result (out.new.items ≡ out.old.items) }
-    ensures spelled { OnOk result (IsPlanText sc.now plan.now (plan_text sc.now plan.now)) }
+    ensures spelled { OnOk result (IsPlanTextIn Dialect.PlanOne sc.now plan.now (plan_text Dialect.PlanOne sc.now plan.now)) }
 {
-    let len = out.len();
-    let appended = push_plan(out, Dialect::PlanOne, sc, plan);
-    cut_if_refused(out, len, appended)
+    print_plan_in(out, Dialect::PlanOne, sc, plan)
 }
 
-/// Appends the text of version 2 of a plan whose records have the prefixes that are expected, the one spelling that it has
-/// in this version. It reads back as that plan.
+/// Appends the text of a plan in the version that plans of the scenario are written in, whose records have letters there and
+/// the prefixes that are expected: the one spelling that it has in this version. It reads back as that plan.
 ///
 /// # Errors
 ///
 /// `NoMemory`: `out` is then as it was.
-pub fn print_plan_2(out: &mut Vec<u8>, sc: &Scenario, plan: &Plan) -> Result<(), NoMemory>
+pub fn print_plan_for(out: &mut Vec<u8>, sc: &Scenario, plan: &Plan) -> Result<(), NoMemory>
     requires printable { IsPrintable sc.now plan.now }
+    requires letters { HasLetters (plan_dialect_for sc.now) plan.now }
     requires in_place { AreInPlace sc.now ([] ∷ []) plan.now.tree }
-    ensures ok { OnOk result (out.new.items ≡ out.old.items ++ plan_text_2 sc.now plan.now) }
+    ensures ok { OnOk result (out.new.items ≡ out.old.items ++ plan_text (plan_dialect_for sc.now) sc.now plan.now) }
     ensures err { OnErr result (out.new.items ≡ out.old.items) }
-    ensures spelled { OnOk result (IsPlanText2 sc.now plan.now (plan_text_2 sc.now plan.now)) }
+    ensures spelled { OnOk result (IsWrittenPlan sc.now plan.now (plan_text (plan_dialect_for sc.now) sc.now plan.now)) }
 {
-    let len = out.len();
-    let appended = push_plan(out, Dialect::PlanTwo, sc, plan);
-    cut_if_refused(out, len, appended)
+    print_plan_in(out, plan_dialect(sc), sc, plan)
 }
 
-/// Appends the text of the gap plan that a plan is, whose records have the prefixes that are expected: all nodes are closed,
-/// and the ceiling is the value. The scenario says by which numbers it is written. It reads back as that gap plan.
+/// Appends the text of the gap plan that a plan is, whose records have letters there and the prefixes that are expected: all
+/// nodes are closed, and the ceiling is the value. The scenario says by which numbers it is written. It reads back as that gap
+/// plan.
 ///
 /// # Errors
 ///
@@ -88,15 +111,14 @@ pub fn print_plan_2(out: &mut Vec<u8>, sc: &Scenario, plan: &Plan) -> Result<(),
 #[tactic(auto, using(crate::proofs::ClosedNodes::closed_text))]
 pub fn print_plan_as_gap(out: &mut Vec<u8>, sc: &Scenario, plan: &Plan) -> Result<(), NoMemory>
     requires printable { IsPrintable sc.now plan.now }
+    requires letters { HasLetters (dialect_with (numbers_for_lem sc.now)) plan.now }
     requires in_place { AreInPlace sc.now ([] ∷ []) plan.now.tree }
     ensures ok { OnOk result (out.new.items ≡ out.old.items ++ gap_text sc.now (gap_of (numbers_for_lem sc.now) plan.now)) }
     ensures err { OnErr result (out.new.items ≡ out.old.items) }
     ensures spelled { OnOk result (IsGapText sc.now (gap_of (numbers_for_lem sc.now) plan.now)
         (gap_text sc.now (gap_of (numbers_for_lem sc.now) plan.now))) }
 {
-    let len = out.len();
-    let appended = push_plan(out, gap_dialect(numbers_for(sc)), sc, plan);
-    cut_if_refused(out, len, appended)
+    print_plan_in(out, gap_dialect(numbers_for(sc)), sc, plan)
 }
 
 // Appends the text of a gap plan.

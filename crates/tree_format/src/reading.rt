@@ -38,7 +38,7 @@ fn gap_from(kept: Collected) -> GapPlan
     }
 }
 
-/// The plan whose text this is, of either version and to its last byte.
+/// The plan whose text this is, of whichever version and to its last byte.
 ///
 /// # Errors
 ///
@@ -57,7 +57,7 @@ pub fn read_plan(alloc: Global, sc: &Scenario, text: &[u8]) -> Result<Plan, Plan
     Ok(plan_from(kept))
 }
 
-/// The gap plan whose text this is, of either version and to its last byte.
+/// The gap plan whose text this is, of whichever version and to its last byte.
 ///
 /// # Errors
 ///

@@ -1,29 +1,38 @@
 //! The fields of a record's line.
 
-ghost use Rattle.std.specs.Prelude.{◌≡◌, ◌≤◌, ◌∷◌, map};
-ghost use Rattle.tree_format.specs.LetterLines.{kind_with as kind_with_lem, numbered_line, dialect_line};
-ghost use Rattle.tree_format.specs.Reading.{most_positions as most_positions_lem, branch_line, bounded_line, tangent_of as tangent_of_lem, tangent_at as tangent_at_lem, tangent_line, node_line};
+ghost use Rattle.std.specs.Prelude.{◌≡◌, ◌≤◌, ◌∷◌, map, Some};
+ghost use Rattle.tree_format.specs.Letters.{referred as referred_lem, only_of as only_of_lem, kind_with as kind_with_lem, numbered_by as numbered_by_lem};
+ghost use Rattle.tree_format.specs.Reading.{most_positions as most_positions_lem, branch_line, bounded_of as bounded_of_lem, bounded_at as bounded_at_lem, bounded_line, numbered_line, node_line};
 
-use crate::dialects::{has_edges, has_open, prefixes_in};
+use crate::dialects::{has_edges, has_exchanges, has_open, prefixes_in};
 use crate::fields::{amount_in, places_in};
 use crate::kind::PlanKind;
 use crate::plan_line::{Dialect, Prefixes};
 use bound_tree::{GapKind, GapNode, Kind};
 use search_model::{Path, Scenario};
 
-/// A number, and the prefix behind it.
+/// A number, the prefix behind it, and the positions behind that.
 #[derive(Clone, Copy)]
 pub struct Bounded {
     pub bound: u128,
     pub prefix: Path,
+    pub reference: Path,
 }
 
-/// What the number on a record's line is.
+/// The records that have a number, by their letters.
 #[derive(Clone, Copy)]
 pub enum Numbered {
+    /// `W`
     Whole,
+    /// `M`
     Mean,
+    /// `T`, behind whose prefix stands a path.
+    Tangent,
+    /// `E`
     Edge,
+    /// `X`, behind whose prefix stands one position.
+    Exchange,
+    /// `O`
     Waiting,
 }
 
@@ -54,79 +63,94 @@ fn read_branch(sc: &Scenario, most: usize, positions: &[&[u8]]) -> Result<GapNod
     }
 }
 
-fn read_bounded(sc: &Scenario, most: usize, fields: &[&[u8]]) -> Result<Bounded, PlanKind>
-    requires { most ≤ 32 }
-    ensures { result ≡ bounded_line sc.now most (map (λ f. f.now) fields.now) }
-{
-    match fields {
-        [] => Err(PlanKind::BadLine),
-        [bound, positions @ ..] => {
-            if positions.len() > most {
-                return Err(PlanKind::BadLine);
-            }
-            match (amount_in(bound), places_in(sc, positions)) {
-                (Some(bound), Some(prefix)) => Ok(Bounded { bound, prefix }),
-                _ => Err(PlanKind::BadNumber),
-            }
-        }
-    }
-}
-
-fn tangent_of(
+fn bounded_of(
     bound: Option<u128>,
     prefix: Option<Path>,
     reference: Option<Path>,
-) -> Result<GapNode, PlanKind>
-    ensures { result ≡ tangent_of_lem bound prefix reference }
+) -> Result<Bounded, PlanKind>
+    ensures { result ≡ bounded_of_lem bound prefix reference }
 {
     match (bound, prefix, reference) {
-        (Some(bound), Some(prefix), Some(reference)) => Ok(GapNode {
+        (Some(bound), Some(prefix), Some(reference)) => Ok(Bounded {
+            bound,
             prefix,
-            kind: GapKind::Closed(Kind::Tangent(bound, reference)),
+            reference,
         }),
         _ => Err(PlanKind::BadNumber),
     }
 }
 
-fn tangent_at(
+// A number and the positions behind it, of which the last so many are those that the record refers to.
+fn bounded_at(
     sc: &Scenario,
     most: usize,
+    long: usize,
     bound: &[u8],
     positions: &[&[u8]],
-) -> Result<GapNode, PlanKind>
-    requires { most ≤ 32 }
-    ensures { result ≡ tangent_at_lem sc.now most bound.now (map (λ f. f.now) positions.now) }
+) -> Result<Bounded, PlanKind>
+    requires most { most ≤ 32 }
+    requires long { long ≤ 32 }
+    ensures { result ≡ bounded_at_lem sc.now most long bound.now (map (λ f. f.now) positions.now) }
 {
-    let horizon = sc.horizon() as usize;
-    if positions.len() < horizon || positions.len() > most + horizon {
+    if positions.len() < long || positions.len() > most + long {
         return Err(PlanKind::BadLine);
     }
-    let own = positions.len() - horizon;
-    tangent_of(
+    let own = positions.len() - long;
+    bounded_of(
         amount_in(bound),
         places_in(sc, &positions[..own]),
         places_in(sc, &positions[own..]),
     )
 }
 
-fn read_tangent(sc: &Scenario, most: usize, fields: &[&[u8]]) -> Result<GapNode, PlanKind>
-    requires { most ≤ 32 }
-    ensures { result ≡ tangent_line sc.now most (map (λ f. f.now) fields.now) }
+fn read_bounded(
+    sc: &Scenario,
+    most: usize,
+    long: usize,
+    fields: &[&[u8]],
+) -> Result<Bounded, PlanKind>
+    requires most { most ≤ 32 }
+    requires long { long ≤ 32 }
+    ensures { result ≡ bounded_line sc.now most long (map (λ f. f.now) fields.now) }
 {
     match fields {
         [] => Err(PlanKind::BadLine),
-        [bound, positions @ ..] => tangent_at(sc, most, bound, positions),
+        [bound, positions @ ..] => bounded_at(sc, most, long, bound, positions),
     }
 }
 
-// The kind of a record with this number.
-fn kind_with(numbered: Numbered, bound: u128) -> GapKind
-    ensures { result ≡ kind_with_lem numbered bound }
+// How many positions a record refers to.
+fn referred(sc: &Scenario, numbered: Numbered) -> usize
+    ensures value { result ≡ referred_lem sc.now numbered }
+    ensures few { result ≤ 32 }
+{
+    match numbered {
+        Numbered::Tangent => sc.horizon() as usize,
+        Numbered::Exchange => 1,
+        Numbered::Whole | Numbered::Mean | Numbered::Edge | Numbered::Waiting => 0,
+    }
+}
+
+// The position that an exchange refers to.
+fn only_of(reference: &Path) -> u8
+    ensures { result ≡ only_of_lem reference.now }
+{
+    match reference.cells() {
+        [] => 0,
+        [u, ..] => *u,
+    }
+}
+
+// The record with this number and the positions that it refers to.
+fn kind_with(numbered: Numbered, bound: u128, reference: &Path) -> GapKind
+    ensures { result ≡ kind_with_lem numbered bound reference.now }
 {
     match numbered {
         Numbered::Whole => GapKind::Closed(Kind::Whole(bound)),
         Numbered::Mean => GapKind::Closed(Kind::Mean(bound)),
+        Numbered::Tangent => GapKind::Closed(Kind::Tangent(bound, *reference)),
         Numbered::Edge => GapKind::Closed(Kind::Edge(bound)),
+        Numbered::Exchange => GapKind::Closed(Kind::Exchange(bound, only_of(reference))),
         Numbered::Waiting => GapKind::Waiting(bound),
     }
 }
@@ -139,32 +163,31 @@ fn read_numbered(
     fields: &[&[u8]],
 ) -> Result<GapNode, PlanKind>
     requires { most ≤ 32 }
-    ensures { result ≡ numbered_line sc.now most numbered (map (λ f. f.now) fields.now) }
+    ensures { result ≡ numbered_line sc.now most (Some numbered) (map (λ f. f.now) fields.now) }
 {
-    let Bounded { bound, prefix } = read_bounded(sc, most, fields)?;
+    let Bounded {
+        bound,
+        prefix,
+        reference,
+    } = read_bounded(sc, most, referred(sc, numbered), fields)?;
     Ok(GapNode {
         prefix,
-        kind: kind_with(numbered, bound),
+        kind: kind_with(numbered, bound, &reference),
     })
 }
 
-// A record whose letter not all dialects have.
-fn read_of_dialect(
-    sc: &Scenario,
-    dialect: Dialect,
-    most: usize,
-    letter: &[u8],
-    fields: &[&[u8]],
-) -> Result<GapNode, PlanKind>
-    requires { most ≤ 32 }
-    ensures { result ≡ dialect_line sc.now dialect most letter.now (map (λ f. f.now) fields.now) }
+// Which record with a number has this letter in a dialect.
+fn numbered_by(dialect: Dialect, letter: &[u8]) -> Option<Numbered>
+    ensures { result ≡ numbered_by_lem dialect letter.now }
 {
-    if letter == b"E".as_slice() && has_edges(dialect) {
-        read_numbered(sc, most, Numbered::Edge, fields)
-    } else if letter == b"O".as_slice() && has_open(dialect) {
-        read_numbered(sc, most, Numbered::Waiting, fields)
-    } else {
-        Err(PlanKind::BadLine)
+    match letter {
+        b"W" => Some(Numbered::Whole),
+        b"M" => Some(Numbered::Mean),
+        b"T" => Some(Numbered::Tangent),
+        b"E" if has_edges(dialect) => Some(Numbered::Edge),
+        b"X" if has_exchanges(dialect) => Some(Numbered::Exchange),
+        b"O" if has_open(dialect) => Some(Numbered::Waiting),
+        _ => None,
     }
 }
 
@@ -179,15 +202,11 @@ fn read_lettered(
 {
     let most = most_positions(sc, prefixes_in(dialect));
     if letter == b"B".as_slice() {
-        read_branch(sc, most, fields)
-    } else if letter == b"W".as_slice() {
-        read_numbered(sc, most, Numbered::Whole, fields)
-    } else if letter == b"M".as_slice() {
-        read_numbered(sc, most, Numbered::Mean, fields)
-    } else if letter == b"T".as_slice() {
-        read_tangent(sc, most, fields)
-    } else {
-        read_of_dialect(sc, dialect, most, letter, fields)
+        return read_branch(sc, most, fields);
+    }
+    match numbered_by(dialect, letter) {
+        Some(numbered) => read_numbered(sc, most, numbered, fields),
+        None => Err(PlanKind::BadLine),
     }
 }
 

@@ -26,6 +26,7 @@ fn letter(kind: &GapKind) -> u8
         GapKind::Closed(Kind::Mean(_)) => b'M',
         GapKind::Closed(Kind::Tangent(_, _)) => b'T',
         GapKind::Closed(Kind::Edge(_)) => b'E',
+        GapKind::Closed(Kind::Exchange(..)) => b'X',
         GapKind::Waiting(_) => b'O',
     }
 }
@@ -38,20 +39,25 @@ fn push_bound(out: &mut Vec<u8>, kind: &GapKind) -> Result<(), NoMemory>
 {
     match kind {
         GapKind::Closed(Kind::Branch) => Ok(()),
-        GapKind::Closed(Kind::Whole(n) | Kind::Mean(n) | Kind::Tangent(n, _) | Kind::Edge(n)) => {
-            push_field(out, Field::Number(*n))
-        }
+        GapKind::Closed(
+            Kind::Whole(n)
+            | Kind::Mean(n)
+            | Kind::Tangent(n, _)
+            | Kind::Edge(n)
+            | Kind::Exchange(n, _),
+        ) => push_field(out, Field::Number(*n)),
         GapKind::Waiting(n) => push_field(out, Field::Number(*n)),
     }
 }
 
-// Appends the positions of a reference, where the record has one.
+// Appends the positions that a record refers to, where there are any.
 fn push_reference(out: &mut Vec<u8>, kind: &GapKind) -> Result<(), NoMemory>
     ensures ok { OnOk result (out.new.items ≡ out.old.items ++ spaced (numbers (reference_of kind.now))) }
     ensures err { OnErr result (Begins out.old.items out.new.items) }
 {
     match kind {
         GapKind::Closed(Kind::Tangent(_, reference)) => push_positions(out, reference.cells()),
+        GapKind::Closed(Kind::Exchange(_, u)) => push_positions(out, &[*u]),
         GapKind::Closed(Kind::Branch | Kind::Whole(_) | Kind::Mean(_) | Kind::Edge(_)) => Ok(()),
         GapKind::Waiting(_) => Ok(()),
     }

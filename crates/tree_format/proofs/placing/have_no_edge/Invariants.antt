@@ -1,7 +1,0 @@
-use Rattle.std.proofs.Common.{take}
-use Rattle.std.specs.Prelude.{All}
-use Rattle.tree_format.specs.PlanText.{IsNoEdge}
-use Rattle.tree_format.proofs.placing.have_no_edge.Given as goal
-
-abbrev pub invariant-loop-node : goal.invariant-loop-node
-invariant-loop-node l = All (λ r. IsNoEdge r.kind) (take l.node-index l.records)
