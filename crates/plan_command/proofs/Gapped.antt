@@ -26,6 +26,7 @@ use Rattle.tree_format.specs.PlanText.{IsPrintableKind, IsPrintableGap}
 use Rattle.plan_command.specs.GapPlans.{RanOut, IsGapped}
 use Rattle.plan_command.proofs.Certified.{opening_standing, more_live}
 use Rattle.plan_command.proofs.Printing.{follows_positions, kind_printable}
+use Rattle.plan_command.proofs.Versions.{gap_lettered}
 
 -- the best path isn't worse than another
 best_at_least : (p : Problem) (s : Standing) (q : List ℕ) → s.value ≡ value_of p s.path → IsBest p s.path → IsPath p q → IsAtLeast s (standing_of p q)
@@ -86,11 +87,12 @@ node_printable numbers p s q (Closed kind) sound good = kind_printable p sound s
 node_printable numbers p s q (Waiting n) sound good = tt
 
 -- so an accepted gap plan can
-pub gap_printable : (p : Problem) (plan : GapPlan) → IsProblem p → GapAccepts p plan → length plan.nodes ≤ MOST_GAP_NODES → IsPrintableGap p plan
-gap_printable p plan sound accepts few = record {
+pub gap_printable : (p : Problem) (plan : GapPlan) → IsProblem p → plan.numbers ≡ numbers_for p → GapAccepts p plan → length plan.nodes ≤ MOST_GAP_NODES → IsPrintableGap p plan
+gap_printable p plan sound numbers accepts few = record {
   some = omega (arith, accepts.path.whole, sound.horizon);
   short = omega (arith, accepts.path.whole, sound.horizon);
   positions = follows_positions p sound plan.standing plan.standing.path accepts.path.follows;
   few = few;
   kinds = All-weaker (IsGoodOpen plan.numbers p plan.standing) (λ node. IsPrintableKind p (shape_of node).kind) (λ node good. node_printable plan.numbers p plan.standing node.prefix node.kind sound good) plan.nodes accepts.good;
+  letters = gap_lettered p plan numbers accepts;
 }

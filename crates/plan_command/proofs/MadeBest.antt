@@ -1,6 +1,6 @@
 -- What is planned of a scenario that is made is the best of the scenario that it is made of, is accepted, and isn't too long
 -- for a check.
-use Rattle.std.proofs.Common.{◌≤◌, ◌≡◌, [], ◌++◌, length, inr, refl, sym, ap, arith, subst, ◌∙◌, length-append}
+use Rattle.std.proofs.Common.{◌≤◌, ◌≡◌, [], ◌++◌, length, refl, sym, ap, arith, subst, ◌∙◌, length-append}
 use Rattle.std.proofs.Math.Seq.{drop-append_seam}
 use Rattle.scenario_text.specs.Canonical.{canonical_text}
 use Rattle.scenario_text.proofs.Back.{canonical_front_reads_back}
@@ -15,6 +15,7 @@ use Rattle.plan_command.specs.Plans.{BeginsWith, IsPlanRest}
 use Rattle.plan_command.specs.Commands.{IsInput}
 use Rattle.plan_command.specs.MadePlans.{IsMadeAndPlanned}
 use Rattle.plan_command.specs.MadeLaws.{ReplannedIsBest, PairedIsBest, MadeIsAccepted, MadeIsWithin, WrittenIsAccepted}
+use Rattle.plan_command.proofs.Versions.{written_is_text}
 use Rattle.plan_command.proofs.PlanSizes.{plan_text_fits}
 use Rattle.plan_command.proofs.ScenarioSizes.{canonical_text_fits}
 
@@ -37,7 +38,7 @@ pub made_is_accepted : MadeIsAccepted
 made_is_accepted q nodes text sound (rest, (plan, certified, few, spelled), whole) =
     let (r, same, front) = canonical_front_reads_back q rest sound in
     let begins : BeginsWith r (canonical_text q ++ rest) rest = record { bytes = length (canonical_text q); front = front; follows = sym (drop-append_seam (canonical_text q) rest) } in
-    let behind : IsPlanRest r rest plan = record { blanks = []; only = refl; text = rest; spelled = same_search_same_texts q r plan rest same (inr spelled); whole = refl } in
+    let behind : IsPlanRest r rest plan = record { blanks = []; only = refl; text = rest; spelled = same_search_same_texts q r plan rest same (written_is_text q plan rest spelled); whole = refl } in
     (r, plan, same, subst (λ both. IsInput both r plan) (sym whole) (rest, begins, behind), accepts_same q r plan sound same certified.accepted)
 
 pub made_is_within : MadeIsWithin

@@ -1,9 +1,9 @@
--- How long the text of version 2 of a plan can be, and that of a gap plan: their records have no prefixes.
-use Rattle.std.proofs.Common.{ℕ, ◌+◌, ◌*◌, ◌<◌, ◌≤◌, ◌≡◌, ◌^◌, List, [], ◌∷◌, ◌++◌, map, length, codes, refl, ap, arith, All, length-append}
+-- How long the text of a plan or of a gap plan can be, in a dialect in which records have no prefixes.
+use Rattle.std.proofs.Common.{ℕ, ◌+◌, ◌*◌, ◌<◌, ◌≤◌, ◌≡◌, ◌^◌, Bool, true, false, cond, List, [], ◌∷◌, ◌++◌, map, length, codes, refl, ap, arith, All, length-append}
 use Rattle.std.specs.Fmt.{decimal}
 use Rattle.std.proofs.lemmas.Fmt.{length-decimal-le_wide}
 use Rattle.std.proofs.lemmas.List.{length-map}
-use Rattle.std.proofs.lemmas.List.Elements.{All-nil, All-cons, All-head, All-tail, All-map, All-weaker, All-get_or}
+use Rattle.std.proofs.lemmas.List.Elements.{All-nil, All-cons, All-head, All-tail, All-append, All-map, All-weaker, All-get_or}
 use Rattle.exact_parts.proofs.Decimals.{digits_fit}
 use Rattle.text_rows.specs.Rows.{text_of, spaced}
 use Rattle.text_rows.proofs.RowLemmas.{text_of-append, spaced_short}
@@ -11,9 +11,7 @@ use Rattle.search_model.specs.Names.{IsName}
 use Rattle.search_model.specs.Problem.{Problem, IsProblem, position_name}
 use Rattle.search_model.specs.declared.standing.Standing.{Standing}
 use Rattle.bound_tree.specs.declared.node.Kind.{Kind}
-use Rattle.bound_tree.specs.declared.node.Kind.TheVariants.{Branch, Whole, Mean, Tangent, Edge}
-use Rattle.bound_tree.specs.declared.gap.Numbers.{Numbers}
-use Rattle.bound_tree.specs.declared.gap.Numbers.TheVariants.{Means, Edges}
+use Rattle.bound_tree.specs.declared.node.Kind.TheVariants.{Branch, Whole, Mean, Tangent, Edge, Exchange}
 use Rattle.bound_tree.specs.declared.gap.GapKind.{GapKind}
 use Rattle.bound_tree.specs.declared.gap.GapKind.TheVariants.{Closed, Waiting}
 use Rattle.bound_tree.specs.declared.gap.GapNode.{GapNode}
@@ -21,12 +19,16 @@ use Rattle.bound_tree.specs.declared.gap.GapPlan.{GapPlan}
 use Rattle.bound_tree.specs.declared.plan.Plan.{Plan}
 use Rattle.bound_tree.specs.Gaps.{shape_of, shape_of_kind, closed_node, gap_of}
 use Rattle.gap_plan.specs.Nodes.{record_at, closed_in}
-use Rattle.tree_format.specs.declared.plan_line.Dialect.TheVariants.{PlanTwo}
-use Rattle.tree_format.specs.Dialects.{version_row, dialect_with}
-use Rattle.tree_format.specs.PlanText.{numbers, node_fields, node_row, chance_row, ceiling_row, ceiling_rows, count_row, head_rows, ArePositions, IsPrintableKind, IsPrintableRecord, IsNarrowKind, IsNarrowNode, IsPlanText2, IsGapText}
+use Rattle.tree_format.specs.declared.plan_line.Dialect.{Dialect}
+use Rattle.tree_format.specs.declared.plan_line.Dialect.TheVariants.{PlanOne, PlanTwo, PlanThree, GapOne, GapTwo}
+use Rattle.tree_format.specs.declared.plan_line.Prefixes.{Prefixes}
+use Rattle.tree_format.specs.declared.plan_line.Prefixes.TheVariants.{Written, LeftOut}
+use Rattle.tree_format.specs.Dialects.{version_row, has_open, prefixes_in, numbers_in, dialect_with, plan_dialect_for}
+use Rattle.tree_format.specs.PlanText.{numbers, node_fields, written, node_row, chance_row, ceiling_row, ceiling_rows, count_row, head_rows, text_in, ArePositions, IsPrintableKind, IsPrintableRecord, IsNarrowKind, IsNarrowNode, IsNarrowGap, IsWrittenPlan, IsGapText}
 use Rattle.tree_format.specs.declared.dialects.TheConstants.{MOST_GAP_NODES}
 use Rattle.tree_format.proofs.LineTexts.{gap_parts}
 use Rattle.plan_command.proofs.TextSizes.{IsShortRow, IsShortLine, line_size, rows_fit}
+use Rattle.plan_command.proofs.Versions.{plan_serves, gap_lean}
 use Rattle.plan_command.proofs.Gapped.{closed_again}
 
 -- a row before the records: at most 33 words, names, or numbers of at most 39 digits
@@ -40,12 +42,12 @@ numbered_line f n letter narrow =
     omega (arith, line_size f (decimal n ∷ []), letter, number)
 
 -- that of a letter, a number, and at most 32 numbers below 200
-tangent_line : (n : ℕ) (q : List ℕ) → n < 2 ^ 128 → All (λ a. a < 200) q → length q ≤ 32 → IsShortLine 170 (codes "T" ∷ decimal n ∷ numbers q)
-tangent_line n q narrow low short =
+listed_line : (f : List ℕ) (n : ℕ) (q : List ℕ) → length f ≤ 1 → n < 2 ^ 128 → All (λ a. a < 200) q → length q ≤ 32 → IsShortLine 170 (f ∷ decimal n ∷ numbers q)
+listed_line f n q letter narrow low short =
     let each = All-map (λ f. length f ≤ 3) decimal q (All-weaker (λ a. a < 200) (λ a. length (decimal a) ≤ 3) (λ a lt. length-decimal-le_wide 3 a (omega arith) (omega (arith, lt)) (omega (arith, lt))) q low) in
     let places = spaced_short 3 (numbers q) each in
     let number = digits_fit n narrow in
-    omega (arith, line_size (codes "T") (decimal n ∷ numbers q), length-append (decimal n) (spaced (numbers q)), number, places, length-map {A = ℕ} {B = List ℕ}, short)
+    omega (arith, line_size f (decimal n ∷ numbers q), letter, length-append (decimal n) (spaced (numbers q)), number, places, length-map {A = ℕ} {B = List ℕ}, short)
 
 -- a word and one number, or two
 number_fields : (n : ℕ) → n < 2 ^ 128 → All (λ f. length f ≤ 39) (decimal n ∷ [])
@@ -67,16 +69,38 @@ word_row word other short also = (omega arith, All-cons (λ f. length f ≤ 39) 
 abbrev lean_row : GapNode → List (List ℕ)
 lean_row node = node_fields [] node.kind
 
+-- one row more, or none
+one_or_none : (b : Bool) (row : List (List ℕ)) → IsHeadRow row → (length (cond b (row ∷ []) []) ≤ 1) × All IsHeadRow (cond b (row ∷ []) [])
+one_or_none true row fits = (omega arith, All-cons IsHeadRow row [] fits (All-nil IsHeadRow))
+one_or_none false row fits = (omega arith, All-nil IsHeadRow)
+
+-- the first line
+version_fits : (v : Dialect) → IsHeadRow (version_row v)
+version_fits PlanOne = word_row (codes "plan") (codes "1") (omega arith) (omega arith)
+version_fits PlanTwo = word_row (codes "plan") (codes "2") (omega arith) (omega arith)
+version_fits PlanThree = word_row (codes "plan") (codes "3") (omega arith) (omega arith)
+version_fits GapOne = word_row (codes "gap") (codes "1") (omega arith) (omega arith)
+version_fits GapTwo = word_row (codes "gap") (codes "2") (omega arith) (omega arith)
+
+-- where prefixes are left out
+lean_rows : (w : Prefixes) (nodes : List GapNode) → w ≡ LeftOut → map (λ node. node_fields (written w node.prefix) node.kind) nodes ≡ map lean_row nodes
+lean_rows Written nodes e = let bad : ⊥ = cc in absurd bad
+lean_rows LeftOut nodes e = refl
+
 module _ (p : Problem) (sound : IsProblem p) where
+  low_positions : (q : List ℕ) → ArePositions p q → All (λ a. a < 200) q
+  low_positions q places = All-weaker (λ a. a < p.positions) (λ a. a < 200) (λ a lt. omega (arith, lt, sound.positions)) q places
+
   -- a record's line
   kind_line : (kind : Kind) → IsPrintableKind p kind → IsNarrowKind kind → IsShortLine 170 (node_fields [] (Closed kind))
   kind_line Branch printable narrow = omega arith
   kind_line (Whole n) printable narrow = omega (arith, numbered_line (codes "W") n (omega arith) narrow)
   kind_line (Mean b) printable narrow = omega (arith, numbered_line (codes "M") b (omega arith) narrow)
-  kind_line (Tangent b reference) printable narrow =
-      let low = All-weaker (λ a. a < p.positions) (λ a. a < 200) (λ a lt. omega (arith, lt, sound.positions)) reference printable.0 in
-      tangent_line b reference narrow low (omega (arith, printable.1, sound.horizon))
+  kind_line (Tangent b reference) printable narrow = listed_line (codes "T") b reference (omega arith) narrow (low_positions reference printable.0) (omega (arith, printable.1, sound.horizon))
   kind_line (Edge b) printable narrow = omega (arith, numbered_line (codes "E") b (omega arith) narrow)
+  kind_line (Exchange b u) printable narrow =
+      let places = All-cons (λ a. a < p.positions) u [] printable (All-nil (λ a. a < p.positions)) in
+      listed_line (codes "X") b (u ∷ []) (omega arith) narrow (low_positions (u ∷ []) places) (omega arith)
 
   -- a node's line: at most 170 bytes where it is closed, and 42 where it waits
   node_line : (q : List ℕ) (kind : GapKind) → IsPrintableKind p (shape_of_kind kind) → IsNarrowNode kind → length (text_of (node_fields [] kind ∷ [])) ≤ 42 + length (record_at q kind) * 128
@@ -99,73 +123,50 @@ module _ (p : Problem) (sound : IsProblem p) where
       let names = All-map (λ f. length f ≤ 39) (position_name p) q (All-weaker (λ a. a < p.positions) (λ a. length (position_name p a) ≤ 39) named q places) in
       (omega (arith, length-map {A = ℕ} {B = List ℕ}, short), All-cons (λ f. length f ≤ 39) (codes "path") (map (position_name p) q) (omega arith) names)
 
-  -- the lines before the records: four of a plan, and five of a gap plan
-  numbered_rows : (value weight n : ℕ) → value < 2 ^ 128 → weight < 2 ^ 128 → n < 2 ^ 128 → IsHeadRow (chance_row value weight) × IsHeadRow (count_row n)
-  numbered_rows value weight n v w few = (two_numbers (codes "chance") value weight (omega arith) v w, one_number (codes "nodes") n (omega arith) few)
-
-  head_fits : (s : Standing) (weight n : ℕ) → ArePositions p s.path → length s.path ≤ 32 → s.value < 2 ^ 128 → weight < 2 ^ 128 → n < 2 ^ 128 →
-      length (text_of (head_rows PlanTwo p s weight s.value n)) ≤ 5284
-  head_fits s weight n places short value narrow few =
+  -- the lines before the records: at most five
+  head_fits : (v : Dialect) (s : Standing) (weight ceiling n : ℕ) → ArePositions p s.path → length s.path ≤ 32 → s.value < 2 ^ 128 → weight < 2 ^ 128 → ceiling < 2 ^ 128 → n < 2 ^ 128 →
+      length (text_of (head_rows v p s weight ceiling n)) ≤ 6605
+  head_fits v s weight ceiling n places short value narrow most few =
       let path : List (List ℕ) = codes "path" ∷ map (position_name p) s.path in
       let chance = chance_row s.value weight in
+      let above = ceiling_rows v ceiling in
       let count = count_row n in
-      let (numbered, last) = numbered_rows s.value weight n value narrow few in
-      let behind = All-cons IsHeadRow path (chance ∷ count ∷ []) (path_row_fits s.path places short) (All-cons IsHeadRow chance (count ∷ []) numbered (All-cons IsHeadRow count [] last (All-nil IsHeadRow))) in
-      let each = All-cons IsHeadRow (version_row PlanTwo) (path ∷ chance ∷ count ∷ []) (word_row (codes "plan") (codes "2") (omega arith) (omega arith)) behind in
-      omega (arith, rows_fit 33 39 (version_row PlanTwo ∷ path ∷ chance ∷ count ∷ []) each)
+      let (one, highest) = one_or_none (has_open v) (ceiling_row ceiling) (one_number (codes "ceiling") ceiling (omega arith) most) in
+      let last = All-cons IsHeadRow count [] (one_number (codes "nodes") n (omega arith) few) (All-nil IsHeadRow) in
+      let numbered = All-cons IsHeadRow chance (above ++ count ∷ []) (two_numbers (codes "chance") s.value weight (omega arith) value narrow) (All-append IsHeadRow above (count ∷ []) highest last) in
+      let each = All-cons IsHeadRow (version_row v) (path ∷ chance ∷ (above ++ count ∷ [])) (version_fits v) (All-cons IsHeadRow path (chance ∷ (above ++ count ∷ [])) (path_row_fits s.path places short) numbered) in
+      omega (arith, rows_fit 33 39 (version_row v ∷ path ∷ chance ∷ (above ++ count ∷ [])) each, length-append above (count ∷ []), one)
 
-  -- the first line, `ceiling N`, and the nodes of a gap plan, whichever numbers it has
-  gap_version_fits : (b : Numbers) → IsHeadRow (version_row (dialect_with b))
-  gap_version_fits Means = word_row (codes "gap") (codes "1") (omega arith) (omega arith)
-  gap_version_fits Edges = word_row (codes "gap") (codes "2") (omega arith) (omega arith)
+  -- the whole text: at most 42 bytes for each node, 128 more for each closed one, and 6,609 for the rest
+  text_fits : (v : Dialect) → prefixes_in v ≡ LeftOut → (plan : GapPlan) → ArePositions p plan.standing.path → length plan.standing.path ≤ 32 → length plan.nodes < 2 ^ 128 →
+      All (λ node. IsPrintableKind p (shape_of node).kind) plan.nodes → IsNarrowGap plan → length (text_in v p plan) ≤ 6609 + (length plan.nodes * 42 + length (closed_in plan.nodes) * 128)
+  text_fits v lean plan places short few printable narrow =
+      let head = text_of (head_rows v p plan.standing plan.weight plan.ceiling (length plan.nodes)) in
+      let records = text_of (map (node_row v) plan.nodes) in
+      let same = ap (λ (rows : List (List (List ℕ))). length (text_of rows)) (lean_rows (prefixes_in v) plan.nodes lean) in
+      let above = head_fits v plan.standing plan.weight plan.ceiling (length plan.nodes) places short narrow.value narrow.weight narrow.ceiling few in
+      let lines = node_lines plan.nodes printable narrow.nodes in
+      omega (arith, ap length (gap_parts v p plan), length-append head (records ++ (codes "end" ++ 10 ∷ [])), length-append records (codes "end" ++ 10 ∷ []), above, same, lines)
 
-  gap_ceiling : (b : Numbers) (ceiling : ℕ) → ceiling_rows (dialect_with b) ceiling ≡ ceiling_row ceiling ∷ []
-  gap_ceiling Means ceiling = refl
-  gap_ceiling Edges ceiling = refl
-
-  lean_rows : (b : Numbers) (nodes : List GapNode) → map (node_row (dialect_with b)) nodes ≡ map lean_row nodes
-  lean_rows Means nodes = refl
-  lean_rows Edges nodes = refl
-
-  gap_head_fits : (b : Numbers) (s : Standing) (weight ceiling n : ℕ) → ArePositions p s.path → length s.path ≤ 32 → s.value < 2 ^ 128 → weight < 2 ^ 128 → ceiling < 2 ^ 128 → n < 2 ^ 128 →
-      length (text_of (head_rows (dialect_with b) p s weight ceiling n)) ≤ 6605
-  gap_head_fits b s weight ceiling n places short value narrow most few =
-      let path : List (List ℕ) = codes "path" ∷ map (position_name p) s.path in
-      let chance = chance_row s.value weight in
-      let above = ceiling_row ceiling in
-      let count = count_row n in
-      let (numbered, last) = numbered_rows s.value weight n value narrow few in
-      let from_above = All-cons IsHeadRow above (count ∷ []) (one_number (codes "ceiling") ceiling (omega arith) most) (All-cons IsHeadRow count [] last (All-nil IsHeadRow)) in
-      let behind = All-cons IsHeadRow path (chance ∷ above ∷ count ∷ []) (path_row_fits s.path places short) (All-cons IsHeadRow chance (above ∷ count ∷ []) numbered from_above) in
-      let version = version_row (dialect_with b) in
-      let each = All-cons IsHeadRow version (path ∷ chance ∷ above ∷ count ∷ []) (gap_version_fits b) behind in
-      let same = ap (λ (rows : List (List (List ℕ))). length (text_of (version ∷ path ∷ chance ∷ (rows ++ count ∷ [])))) (gap_ceiling b ceiling) in
-      omega (arith, same, rows_fit 33 39 (version ∷ path ∷ chance ∷ above ∷ count ∷ []) each)
-
-  -- the whole text of a plan: at most 170 bytes for each record, and 5,288 for the rest
-  pub plan_text_fits : (plan : Plan) (text : List ℕ) → IsPlanText2 p plan text → length text ≤ 5288 + length plan.tree * 170
+  -- of a plan: at most 170 bytes for each record
+  pub plan_text_fits : (plan : Plan) (text : List ℕ) → IsWrittenPlan p plan text → length text ≤ 6609 + length plan.tree * 170
   plan_text_fits plan text is =
-      let s = plan.standing in
-      let n = length plan.tree in
       let nodes = map closed_node plan.tree in
-      let head = text_of (head_rows PlanTwo p s plan.weight s.value (length nodes)) in
-      let records = text_of (map lean_row nodes) in
-      let same : length nodes ≡ n = length-map plan.tree closed_node in
-      let above = head_fits s plan.weight (length nodes) is.printable.positions is.printable.short is.narrow.value is.narrow.weight (omega (arith, is.printable.few, same)) in
+      let same : length nodes ≡ length plan.tree = length-map plan.tree closed_node in
       let printable = All-map (λ node. IsPrintableKind p (shape_of node).kind) closed_node plan.tree (All-weaker (IsPrintableRecord p) (λ r. IsPrintableKind p r.kind) (λ r printable. printable.kind) plan.tree is.printable.records) in
-      let lines = node_lines nodes printable (All-map (λ node. IsNarrowNode node.kind) closed_node plan.tree is.narrow.records) in
-      omega (arith, ap length is.spelled, ap length (gap_parts PlanTwo p (gap_of Means plan)), length-append head (records ++ (codes "end" ++ 10 ∷ [])), length-append records (codes "end" ++ 10 ∷ []), above, lines, same, ap length (closed_again plan.tree))
+      let v = plan_dialect_for p in
+      let narrow : IsNarrowGap (gap_of (numbers_in v) plan) = record {
+        value = is.narrow.value;
+        weight = is.narrow.weight;
+        ceiling = is.narrow.value;
+        nodes = All-map (λ node. IsNarrowNode node.kind) closed_node plan.tree is.narrow.records;
+      } in
+      let fits = text_fits v (plan_serves p).lean (gap_of (numbers_in v) plan) is.printable.positions is.printable.short (omega (arith, is.printable.few, same)) printable narrow in
+      omega (arith, ap length is.spelled, fits, same, ap length (closed_again plan.tree))
 
-  -- and of a gap plan: at most 42 bytes for each node, 128 more for each closed one, and 6,609 for the rest
+  -- and of a gap plan
   pub gap_text_fits : (plan : GapPlan) (text : List ℕ) → IsGapText p plan text → length text ≤ 6609 + (length plan.nodes * 42 + length (closed_in plan.nodes) * 128)
   gap_text_fits plan text is =
-      let s = plan.standing in
-      let n = length plan.nodes in
-      let v = dialect_with plan.numbers in
-      let head = text_of (head_rows v p s plan.weight plan.ceiling n) in
-      let records = text_of (map (node_row v) plan.nodes) in
-      let lean = ap (λ (rows : List (List (List ℕ))). length (text_of rows)) (lean_rows plan.numbers plan.nodes) in
       let all : MOST_GAP_NODES ≡ 4194305 = refl in
-      let above = gap_head_fits plan.numbers s plan.weight plan.ceiling n is.printable.positions is.printable.short is.narrow.value is.narrow.weight is.narrow.ceiling (omega (arith, is.printable.few, all)) in
-      let lines = node_lines plan.nodes is.printable.kinds is.narrow.nodes in
-      omega (arith, ap length is.spelled, ap length (gap_parts v p plan), length-append head (records ++ (codes "end" ++ 10 ∷ [])), length-append records (codes "end" ++ 10 ∷ []), above, lean, lines)
+      let few : length plan.nodes < 2 ^ 128 = omega (arith, is.printable.few, all) in
+      omega (arith, ap length is.spelled, text_fits (dialect_with plan.numbers) (gap_lean plan.numbers) plan is.printable.positions is.printable.short few is.printable.kinds is.narrow)

@@ -1,5 +1,5 @@
 -- What is planned is accepted behind any text of the same search, and isn't too long there; and so it is of a gap plan.
-use Rattle.std.proofs.Common.{◌≡◌, ℕ, ◌+◌, true, List, ◌++◌, length, inr, refl, sym, ap, arith, ◌∙◌, append_assoc, length-append}
+use Rattle.std.proofs.Common.{◌≡◌, ℕ, true, List, ◌++◌, length, refl, sym, ap, arith, ◌∙◌, append_assoc, length-append}
 use Rattle.std.specs.List.{list_all}
 use Rattle.std.proofs.lemmas.List.{length-drop}
 use Rattle.std.proofs.lemmas.List.Folds.{list_all-append}
@@ -18,6 +18,7 @@ use Rattle.plan_command.specs.Plans.{BeginsWith, IsRest, IsPlanRest, IsGapRest}
 use Rattle.plan_command.specs.Spaces.{is_space}
 use Rattle.plan_command.specs.Laws.{PlannedIsAccepted, PlannedBehindCanonical, PlannedBehindInput, PlannedIsWithin, PlannedIsWithinBehindInput, GappedIsAccepted, GappedBehindCanonical, GappedBehindInput, GappedIsWithin, GappedIsWithinBehindInput}
 use Rattle.plan_command.proofs.Behind.{StandsBehind, stands_behind}
+use Rattle.plan_command.proofs.Versions.{written_is_text}
 use Rattle.plan_command.proofs.PlanSizes.{gap_text_fits}
 use Rattle.plan_command.proofs.Finishing.{accepted_due, gap_accepted_due}
 
@@ -34,7 +35,7 @@ blanks_before IsText blanks rest only is = record {
 pub planned_is_accepted : PlannedIsAccepted
 planned_is_accepted words p q nodes input rest both status is same begins behind due =
     let (plan, certified, few, spelled) = behind.spelled in
-    let stands : IsPlanRest q rest plan = record { blanks = behind.blanks; only = behind.only; text = behind.text; spelled = same_search_same_texts p q plan behind.text same (inr spelled); whole = behind.whole } in
+    let stands : IsPlanRest q rest plan = record { blanks = behind.blanks; only = behind.only; text = behind.text; spelled = same_search_same_texts p q plan behind.text same (written_is_text p plan behind.text spelled); whole = behind.whole } in
     accepted_due words Check both q plan status refl (rest, begins, stands) (accepts_same p q plan is.says.sound same certified.accepted) due
 
 pub planned_behind_canonical : PlannedBehindCanonical
@@ -47,14 +48,14 @@ pub planned_behind_input : PlannedBehindInput
 planned_behind_input words p nodes input rest status is feed behind due =
     let (plan, certified, few, spelled) = behind.spelled in
     let there : StandsBehind p input rest = stands_behind p input rest is feed in
-    let plain : IsPlanRest p rest plan = record { blanks = behind.blanks; only = behind.only; text = behind.text; spelled = inr spelled; whole = behind.whole } in
+    let plain : IsPlanRest p rest plan = record { blanks = behind.blanks; only = behind.only; text = behind.text; spelled = written_is_text p plan behind.text spelled; whole = behind.whole } in
     let stands = blanks_before (IsTextOfPlan p plan) there.blanks rest there.only plain in
     accepted_due words Check (input ++ rest) p plan status refl (there.blanks ++ rest, there.begins, stands) certified.accepted due
 
 pub planned_is_within : PlannedIsWithin
 planned_is_within p q nodes input rest both begins behind is short =
     let (plan, certified, few, spelled) = behind.spelled in
-    let long = plan_text_is_short p plan behind.text is.says.sound (inr spelled) in
+    let long = plan_text_is_short p plan behind.text is.says.sound (written_is_text p plan behind.text spelled) in
     let follows = ap length begins.follows in
     let judged : MOST_JUDGED ≡ 336592896 = refl in
     let scenario : MOST_SCENARIO ≡ 1048576 = refl in
@@ -62,7 +63,7 @@ planned_is_within p q nodes input rest both begins behind is short =
 
 pub planned_is_within_behind_input : PlannedIsWithinBehindInput
 planned_is_within_behind_input p nodes input text is (plan, certified, few, spelled) short =
-    let long = plan_text_is_short p plan text is.says.sound (inr spelled) in
+    let long = plan_text_is_short p plan text is.says.sound (written_is_text p plan text spelled) in
     let judged : MOST_JUDGED ≡ 336592896 = refl in
     let scenario : MOST_SCENARIO ≡ 1048576 = refl in
     (MOST_JUDGED, refl, omega (arith, long, short, spelled.printable.few, judged, scenario, length-append input text))

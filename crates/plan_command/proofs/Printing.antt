@@ -1,15 +1,18 @@
 -- An accepted plan can be written.
-use Rattle.std.proofs.Common.{ℕ, ◌≡◌, ◌≤◌, ◌<◌, List, [], ◌∷◌, ◌++◌, length, sym, subst, arith, All}
+use Rattle.std.proofs.Common.{ℕ, ◌≡◌, ◌≤◌, ◌<◌, ◌-◌, List, [], ◌∷◌, ◌++◌, length, take, sym, subst, arith, All}
+use Rattle.std.specs.Prelude.{slice_index}
 use Rattle.std.proofs.lemmas.List.Elements.{All-nil, All-cons, All-head, All-tail, All-append}
+use Rattle.list_laws.proofs.Halves.{All-back}
 use Rattle.search_model.specs.declared.standing.Standing.{Standing}
 use Rattle.search_model.specs.Problem.{Problem, IsProblem}
 use Rattle.search_model.specs.Legal.{Follows, IsLegal}
 use Rattle.search_model.proofs.PlainSteps.{positions_follow}
 use Rattle.bound_tree.specs.declared.node.Kind.{Kind}
-use Rattle.bound_tree.specs.declared.node.Kind.TheVariants.{Branch, Whole, Mean, Tangent, Edge}
+use Rattle.bound_tree.specs.declared.node.Kind.TheVariants.{Branch, Whole, Mean, Tangent, Edge, Exchange}
 use Rattle.bound_tree.specs.declared.node.TreeNode.{TreeNode}
 use Rattle.bound_tree.specs.declared.plan.Plan.{Plan}
 use Rattle.bound_tree.specs.Accepts.{IsGoodKind, expected_by, AreEaten, Accepts}
+use Rattle.bound_tree.specs.Exchanges.{exchanged}
 use Rattle.bound_tree.proofs.Rooms.{legal_expected}
 use Rattle.bound_tree.proofs.Placing.{eaten_are_in_place}
 use Rattle.bound_tree.specs.Places.{AreInPlace}
@@ -26,6 +29,10 @@ module _ (p : Problem) (sound : IsProblem p) (s : Standing) where
   kind_printable q (Mean b) good = tt
   kind_printable q (Tangent b whole) good = let path = good.1.2.path in (follows_positions whole path.follows, path.whole)
   kind_printable q (Edge b) good = tt
+  kind_printable q (Exchange b u) good =
+      let last : List ℕ = slice_index q (length q - 1) ∷ [] in
+      let places = follows_positions (exchanged u q) good.1.legal.follows in
+      All-head (λ a. a < p.positions) u last (All-back (λ a. a < p.positions) (take (length q - 2) q) (u ∷ last) places)
 
   -- a branch that is good is shorter than the horizon
   branch_is_short : (q : List ℕ) (kind : Kind) → IsGoodKind p s q kind → kind ≡ Branch → length q < p.horizon
@@ -34,6 +41,7 @@ module _ (p : Problem) (sound : IsProblem p) (s : Standing) where
   branch_is_short q (Mean b) good e = let bad : ⊥ = cc in absurd bad
   branch_is_short q (Tangent b whole) good e = let bad : ⊥ = cc in absurd bad
   branch_is_short q (Edge b) good e = let bad : ⊥ = cc in absurd bad
+  branch_is_short q (Exchange b u) good e = let bad : ⊥ = cc in absurd bad
 
   -- records that are eaten can be written
   eaten_printable : (qs : List (List ℕ)) (rs : List TreeNode) → All (IsLegal p) qs → AreEaten p s qs rs → All (IsPrintableRecord p) rs

@@ -1,16 +1,16 @@
 -- A scenario and a plan on one input.
-use Rattle.std.proofs.Common.{ℕ, ◌≡◌, false, List, Result, Ok, Err, refl, sym, ap, subst, ◌∙◌, inl, inr}
+use Rattle.std.proofs.Common.{ℕ, ◌≡◌, false, List, Result, Ok, Err, refl, sym, ap, subst, ◌∙◌}
 use Rattle.search_model.specs.Problem.{Problem, IsProblem}
 use Rattle.bound_tree.specs.declared.plan.Plan.{Plan}
-use Rattle.bound_tree.specs.declared.gap.Numbers.{Numbers}
-use Rattle.bound_tree.specs.declared.gap.Numbers.TheVariants.{Means, Edges}
 use Rattle.bound_tree.specs.declared.gap.GapPlan.{GapPlan}
-use Rattle.bound_tree.specs.Gaps.{plan_of}
+use Rattle.bound_tree.specs.Gaps.{plan_of, gap_of}
 use Rattle.tree_format.specs.declared.kind.PlanFault.{PlanFault}
+use Rattle.tree_format.specs.declared.plan_line.Dialect.{Dialect}
+use Rattle.tree_format.specs.declared.plan_line.Dialect.TheVariants.{PlanOne, PlanTwo, PlanThree, GapOne, GapTwo}
 use Rattle.tree_format.specs.declared.plan_line.Family.{Family}
 use Rattle.tree_format.specs.declared.plan_line.Family.TheVariants.{Plans, Gaps}
-use Rattle.tree_format.specs.Dialects.{dialect_with}
-use Rattle.tree_format.specs.PlanText.{text_in, plan_text, plan_text_2, gap_text, IsTextOfPlan, IsGapText}
+use Rattle.tree_format.specs.Dialects.{numbers_in, dialect_with}
+use Rattle.tree_format.specs.PlanText.{text_in, plan_text, gap_text, IsTextOfPlan, IsGapText}
 use Rattle.tree_format.specs.Reading.{text_at, as_plan, plan_at, gap_at}
 use Rattle.tree_format.proofs.ReadsBack.{text_read, read_is_closed, gap_read, one_plan_a_text, one_gap_a_text}
 use Rattle.tree_format.proofs.Spelled.{one_text_a_plan, one_text_a_gap}
@@ -23,16 +23,18 @@ use Rattle.plan_command.proofs.SpaceLemmas.{skipped_alike}
 starts_so : (text whole : List ℕ) → text ≡ whole → starts_with_space whole ≡ false → starts_with_space text ≡ false
 starts_so text whole is first = subst (λ t. starts_with_space t ≡ false) (sym is) first
 
-text_starts : (p : Problem) (plan : Plan) (text : List ℕ) → IsTextOfPlan p plan text → starts_with_space text ≡ false
-text_starts p plan text (inl one) = starts_so text (plan_text p plan) one.spelled refl
-text_starts p plan text (inr two) = starts_so text (plan_text_2 p plan) two.spelled refl
+text_begins : (v : Dialect) (p : Problem) (plan : GapPlan) → starts_with_space (text_in v p plan) ≡ false
+text_begins PlanOne p plan = refl
+text_begins PlanTwo p plan = refl
+text_begins PlanThree p plan = refl
+text_begins GapOne p plan = refl
+text_begins GapTwo p plan = refl
 
-gap_begins : (b : Numbers) (p : Problem) (plan : GapPlan) → starts_with_space (text_in (dialect_with b) p plan) ≡ false
-gap_begins Means p plan = refl
-gap_begins Edges p plan = refl
+text_starts : (p : Problem) (plan : Plan) (text : List ℕ) → IsTextOfPlan p plan text → starts_with_space text ≡ false
+text_starts p plan text (v, plans, is) = starts_so text (plan_text v p plan) is.spelled (text_begins v p (gap_of (numbers_in v) plan))
 
 gap_starts : (p : Problem) (plan : GapPlan) (text : List ℕ) → IsGapText p plan text → starts_with_space text ≡ false
-gap_starts p plan text is = starts_so text (gap_text p plan) is.spelled (gap_begins plan.numbers p plan)
+gap_starts p plan text is = starts_so text (gap_text p plan) is.spelled (text_begins (dialect_with plan.numbers) p plan)
 
 -- the plan of the text behind the blanks that are skipped is the plan of the rest
 pub plan_behind : (p : Problem) (rest text : List ℕ) (plan : Plan) → IsProblem p → SkipsSpaces rest text → plan_at p text ≡ Ok plan → IsPlanRest p rest plan

@@ -10,7 +10,7 @@ use Rattle.bound_tree.specs.declared.plan.Plan.{Plan as APlan}
 use Rattle.bound_tree.specs.declared.gap.GapPlan.{GapPlan}
 use Rattle.bound_tree.specs.Accepts.{Accepts}
 use Rattle.bound_tree.specs.Gaps.{GapAccepts}
-use Rattle.tree_format.specs.PlanText.{IsPlanText2}
+use Rattle.tree_format.specs.PlanText.{IsWrittenPlan}
 use Rattle.tree_format.specs.declared.kind.PlanFault.{PlanFault}
 use Rattle.tree_format.specs.declared.plan_line.Family.{Family as TextFamily}
 use Rattle.tree_format.specs.declared.plan_line.Family.TheVariants.{Plans, Gaps}
@@ -102,7 +102,7 @@ report_of false p path = report_text p path
 abbrev pub TellsPlan : Request → Problem → APlan → Status → List ℕ → Type 0
 TellsPlan Check p plan status text = IsVerdict p plan status text
 TellsPlan (Report json) p plan status text = (status ≡ statuses.Done) × Accepts p plan × (text ≡ report_of json p plan.standing.path)
-TellsPlan Convert p plan status text = (status ≡ statuses.Done) × Accepts p plan × IsPlanText2 p plan text
+TellsPlan Convert p plan status text = (status ≡ statuses.Done) × Accepts p plan × IsWrittenPlan p plan text
 TellsPlan _ p plan status text = ⊥
 
 -- `report` or `convert`: what it writes it writes of an accepted plan

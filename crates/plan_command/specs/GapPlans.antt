@@ -22,7 +22,7 @@ pub record RanOut (p : Problem) (opening : List ℕ) (nodes closed : ℕ) : Type
   pub more : HasMoreLive p (standing_of p opening) nodes
 
 -- a gap plan that is accepted, so that no path finds more than its ceiling, with the numbers of the problem; its path isn't worse than the opening, and no
--- branch has a prefix that the opening closes by its mean, tangent or edge bound. At most so many records are closed; where
+-- branch has a prefix that the opening closes by a bound. At most so many records are closed; where
 -- no prefix waits, the path is the best, and else the records ran out
 pub record IsGapped (nodes : ℕ) (p : Problem) (plan : GapPlan) : Type 0 where
   pub accepted : GapAccepts p plan

@@ -11,7 +11,7 @@ use Rattle.duo_search.specs.Pairs.{IsPathFrom, firsts_of, seconds_of}
 use Rattle.bound_tree.specs.declared.plan.Plan.{Plan}
 use Rattle.bound_tree.specs.Accepts.{Accepts}
 use Rattle.scenario_text.specs.Canonical.{canonical_text}
-use Rattle.tree_format.specs.PlanText.{IsPlanText2}
+use Rattle.tree_format.specs.PlanText.{IsWrittenPlan}
 use Rattle.plan_command.specs.declared.request.Request.TheVariants.{Check}
 use Rattle.plan_command.specs.Plans.{IsCertified, HasFewLive}
 use Rattle.plan_command.specs.Commands.{IsInput}
@@ -50,7 +50,7 @@ abbrev pub TellsAccepted : List ℕ → Type 0
 TellsAccepted text = IsWithin Check text × ((q r : Problem) × (plan : Plan) × AreSame q r × IsInput text r plan × Accepts r plan)
 
 abbrev pub WrittenIsAccepted : Type 0
-WrittenIsAccepted = (q : Problem) (plan : Plan) (nodes : ℕ) (text : List ℕ) → IsProblem q → IsCertified q plan → length plan.tree ≤ nodes → IsPlanText2 q plan text →
+WrittenIsAccepted = (q : Problem) (plan : Plan) (nodes : ℕ) (text : List ℕ) → IsProblem q → IsCertified q plan → length plan.tree ≤ nodes → IsWrittenPlan q plan text →
     TellsAccepted (canonical_text q ++ text)
 
 -- all scenarios that force the prefix of the same names are one search

@@ -8,7 +8,7 @@ use Rattle.scenario_text.specs.Scenarios.{IsFront}
 use Rattle.bound_tree.specs.declared.plan.Plan.{Plan}
 use Rattle.bound_tree.specs.declared.gap.GapPlan.{GapPlan}
 use Rattle.bound_tree.specs.Accepts.{Accepts}
-use Rattle.tree_format.specs.PlanText.{IsTextOfPlan, IsPlanText2, IsGapText}
+use Rattle.tree_format.specs.PlanText.{IsTextOfPlan, IsWrittenPlan, IsGapText}
 use Rattle.tree_format.specs.declared.kind.PlanFault.{PlanFault}
 use Rattle.tree_format.specs.declared.plan_line.Family.{Family}
 use Rattle.tree_format.specs.declared.plan_line.Family.TheVariants.{Plans, Gaps}
@@ -21,7 +21,7 @@ use Rattle.plan_command.specs.Spaces.{is_space, SkipsSpaces}
 use Rattle.bound_tree.specs.Close.{LetsBranch, HasMoreLive}
 
 -- the best path, with records that are accepted for its exact value and the whole weight; no branch has a prefix that the
--- opening closes by its mean, tangent or edge bound
+-- opening closes by a bound
 pub record IsCertified (p : Problem) (plan : Plan) : Type 0 where
   pub best : IsBest p plan.standing.path
   pub accepted : Accepts p plan
@@ -29,9 +29,9 @@ pub record IsCertified (p : Problem) (plan : Plan) : Type 0 where
   pub is_opening : IsOpening p opening
   pub branches : LetsBranch p (standing_of p opening) plan.tree
 
--- the text of version 2 of a certified plan of this problem, which has at most so many records
+-- the text, of the version that the horizon asks for, of a certified plan of this problem, which has at most so many records
 abbrev pub IsPlanOf : ℕ → Problem → List ℕ → Type 0
-IsPlanOf nodes p text = (plan : Plan) × IsCertified p plan × (length plan.tree ≤ nodes) × IsPlanText2 p plan text
+IsPlanOf nodes p text = (plan : Plan) × IsCertified p plan × (length plan.tree ≤ nodes) × IsWrittenPlan p plan text
 
 -- more live prefixes under the opening than the limit
 abbrev pub IsTooMany : Problem → ℕ → Type 0
@@ -71,7 +71,7 @@ pub record IsRest (IsText : List ℕ → Type 0) (rest : List ℕ) : Type 0 wher
   pub spelled : IsText text
   pub whole : rest ≡ blanks ++ text
 
--- the rest is blanks and line feeds, and then the text of this plan, of version 1 or of version 2
+-- the rest is blanks and line feeds, and then the text of this plan, of any version
 abbrev pub IsPlanRest : Problem → List ℕ → Plan → Type 0
 IsPlanRest p rest plan = IsRest (IsTextOfPlan p plan) rest
 

@@ -18,7 +18,7 @@ use Rattle.bound_tree.specs.Accepts.{Accepts}
 use Rattle.bound_tree.specs.Gaps.{GapAccepts}
 use Rattle.mission_report.specs.Map.{map_text}
 use Rattle.tree_format.specs.declared.kind.PlanFault.{PlanFault}
-use Rattle.tree_format.specs.PlanText.{IsPlanText2, IsGapText}
+use Rattle.tree_format.specs.PlanText.{IsWrittenPlan, IsGapText}
 use Rattle.tree_checker.specs.declared.verdict.RejectAt.{RejectAt}
 use Rattle.tree_checker.specs.declared.gap_verdict.GapRejectAt.{GapRejectAt}
 use Rattle.scenario_maker.specs.Made.{made_problem}
@@ -59,13 +59,13 @@ Writes c text = Appends c.before.wrote c.after.wrote text
 abbrev pub WritesNothing : {Went : Course → Type 0} → Call Went → Type 0
 WritesNothing c = c.after.wrote ≡ c.before.wrote
 
--- where a plan was asked for, the input is the text of a scenario alone, and `out` grew by plan text of version 2: the best
--- path of that scenario, its exact value and the whole weight, and records that are accepted, at most as many as were allowed;
--- no branch has a prefix that the opening closes by its mean, tangent or edge bound
+-- where a plan was asked for, the input is the text of a scenario alone, and `out` grew by plan text of the version
+-- that the horizon asks for: the best path of that scenario, its exact value and the whole weight, and records that are
+-- accepted, at most as many as were allowed; no branch has a prefix that the opening closes by a bound
 abbrev pub Plans : {Went : Course → Type 0} → Call Went → Type 0
 Plans c = (workers nodes : ℕ) → Spells c.words (Plan workers nodes) →
     (p : Problem) × (input : List ℕ) × IsTextOf p input × ReadsAll c input
-    × ((plan : APlan) × (text : List ℕ) × IsCertified p plan × (length plan.tree ≤ nodes) × IsPlanText2 p plan text × Writes c text)
+    × ((plan : APlan) × (text : List ℕ) × IsCertified p plan × (length plan.tree ≤ nodes) × IsWrittenPlan p plan text × Writes c text)
 
 -- where a gap plan was asked for, the input is the text of a scenario alone, and `out` grew by the text of a gap plan: a path
 -- that isn't worse than the opening, its exact value, a ceiling that no path exceeds, and nodes that are accepted for it. At
@@ -83,7 +83,7 @@ abbrev pub Replans : {Went : Course → Type 0} → Call Went → Type 0
 Replans c = (workers nodes flown : ℕ) → Spells c.words (Replan workers nodes flown) →
     (p q : Problem) × (input prefix : List ℕ) × IsTextOf p input × ReadsAll c input
     × IsFlown p (names_behind flown c.words) prefix × IsProblem q × IsForced p prefix q
-    × ((plan : APlan) × (text : List ℕ) × IsCertified q plan × (length plan.tree ≤ nodes) × IsPlanText2 q plan text
+    × ((plan : APlan) × (text : List ℕ) × IsCertified q plan × (length plan.tree ≤ nodes) × IsWrittenPlan q plan text
     × IsBestAmong p (Starts prefix) (map (source_of p prefix) plan.standing.path) × Writes c (canonical_text q ++ text))
 
 -- where a map was asked for, the input is the text of a scenario alone, and `out` grew by the map of the prefix of the names
@@ -107,7 +107,7 @@ abbrev pub Pairs : {Went : Course → Type 0} → Call Went → Type 0
 Pairs c = (workers nodes : ℕ) (name : List ℕ) → Spells c.words (Duo workers nodes name) →
     (p q : Problem) × (input : List ℕ) × (second : ℕ) × IsTextOf p input × ReadsAll c input
     × Names p name second × IsProblem q × IsProduct p second q
-    × ((plan : APlan) × (text : List ℕ) × IsCertified q plan × (length plan.tree ≤ nodes) × IsPlanText2 q plan text
+    × ((plan : APlan) × (text : List ℕ) × IsCertified q plan × (length plan.tree ≤ nodes) × IsWrittenPlan q plan text
     × FindsMost p second plan × Writes c (canonical_text q ++ text))
 
 -- the input is a scenario and a plan that is accepted, so that its path is the best
@@ -130,9 +130,10 @@ abbrev pub Reports : {Went : Course → Type 0} → Call Went → Type 0
 Reports c = (json : Bool) → Spells c.words (Report json) →
     (p : Problem) × (plan : APlan) × ReadsBest c p plan × Writes c (report_of json p plan.standing.path)
 
--- where a new text of the plan was asked for, it read such an input, and `out` grew by the plan's one text of version 2
+-- where a new text of the plan was asked for, it read such an input, and `out` grew by the plan's one text of
+-- the version that the horizon asks for
 abbrev pub Converts : {Went : Course → Type 0} → Call Went → Type 0
-Converts c = Spells c.words Convert → (p : Problem) × (plan : APlan) × ReadsBest c p plan × ((text : List ℕ) × IsPlanText2 p plan text × Writes c text)
+Converts c = Spells c.words Convert → (p : Problem) × (plan : APlan) × ReadsBest c p plan × ((text : List ℕ) × IsWrittenPlan p plan text × Writes c text)
 
 -- the reason was written where a check was asked for, and nothing where a report or a new text was
 abbrev pub WritesReason : {Went : Course → Type 0} → Call Went → RejectAt → Type 0

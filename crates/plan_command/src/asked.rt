@@ -51,7 +51,7 @@ pub enum JudgedRequest {
     CheckGap,
     /// What the accepted plan finds, and what it leaves.
     Report { json: bool },
-    /// The text of version 2 of the accepted plan.
+    /// The text of the accepted plan, of the version that the horizon asks for.
     Convert,
 }
 

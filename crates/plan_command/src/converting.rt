@@ -12,7 +12,8 @@ use crate::status::{Refusal, Status, Stop};
 use std::alloc::Global;
 use tree_checker::{GapVerdict, as_plain};
 
-/// The plan that follows the scenario in the input, as text of version 2, where it is accepted.
+/// The plan that follows the scenario in the input, as its text of the version that the horizon asks for,
+/// where it is accepted.
 pub fn answer_convert(alloc: Global, judgement: &Judgement) -> Result<Answer, Stop>
     requires { (input : List ℕ) × JudgesAs keeping_plans input (Ok judgement.now) }
     ensures { (words : List (List ℕ)) (input : List ℕ) → JudgesAs keeping_plans input (Ok judgement.now)

@@ -4,7 +4,8 @@ ghost use Rattle.std.specs.Prelude.{◌≡◌, ◌∷◌, [], ℕ, List, IfOk};
 ghost use Rattle.search_model.specs.Tracks.{value_of};
 ghost use Rattle.bound_tree.specs.Accepts.{Accepts};
 ghost use Rattle.bound_tree.specs.Places.{AreInPlace};
-ghost use Rattle.tree_format.specs.PlanText.{IsPrintable, ArePositions};
+ghost use Rattle.tree_format.specs.Dialects.{plan_dialect_for};
+ghost use Rattle.tree_format.specs.PlanText.{IsPrintable, HasLetters, ArePositions};
 ghost use Rattle.plan_command.specs.declared.request.Request.{Request};
 ghost use Rattle.scenario_maker.specs.Made.{made_problem};
 ghost use Rattle.scenario_text.specs.Canonical.{canonical_text};
@@ -30,7 +31,7 @@ use std::sync::Wait;
 use std::thread::Threads;
 use text_rows::{Field, push_row};
 use tree_checker::{Verdict, check};
-use tree_format::{PlanStop, print_plan_2, push_path, read_plan};
+use tree_format::{PlanStop, print_plan_for, push_path, read_plan};
 
 // The text of a scenario.
 fn text_of(alloc: Global, sc: &Scenario) -> Result<Vec<u8>, NoMemory>
@@ -66,6 +67,7 @@ fn plan_of_few<R: AllocGlobal + Threads + Wait + Sync, G: Gate>(
     requires few { IsTooMany sc.now MOST_NODES → ⊥ }
     ensures certified { IfOk result (IsCertified sc.now) }
     ensures printable { IfOk result (IsPrintable sc.now) }
+    ensures letters { IfOk result (HasLetters (plan_dialect_for sc.now)) }
     ensures in_place { IfOk result (λ plan. AreInPlace sc.now ([] ∷ []) plan.tree) }
 {
     sc.recall_sound();
@@ -76,14 +78,15 @@ fn plan_of_few<R: AllocGlobal + Threads + Wait + Sync, G: Gate>(
     }
 }
 
-// A plan as it is read from its own text of version 2.
+// A plan as it is read from its own text.
 fn read_again(alloc: Global, sc: &Scenario, plan: &Plan) -> Result<Plan, NoMemory>
     requires printable { IsPrintable sc.now plan.now }
+    requires letters { HasLetters (plan_dialect_for sc.now) plan.now }
     requires in_place { AreInPlace sc.now ([] ∷ []) plan.now.tree }
     ensures { IfOk result (λ again. again ≡ plan.now) }
 {
     let mut text = Vec::new(alloc);
-    print_plan_2(&mut text, sc, plan)?;
+    print_plan_for(&mut text, sc, plan)?;
     match read_plan(alloc, sc, &text) {
         Ok(again) => Ok(again),
         Err(PlanStop::NoMemory) => Err(NoMemory),

@@ -1,6 +1,6 @@
 //! The gap plan of a scenario, and its text: what a search has proved when its records run out.
 
-ghost use Rattle.std.specs.Prelude.{◌≤◌, length, IfOk};
+ghost use Rattle.std.specs.Prelude.{◌≡◌, ◌≤◌, length, IfOk};
 ghost use Rattle.bound_tree.specs.Accepts.{Accepts};
 ghost use Rattle.bound_tree.specs.Gaps.{gap_of, numbers_for as numbers_for_lem, GapAccepts};
 ghost use Rattle.tree_format.specs.declared.dialects.TheConstants.{MOST_GAP_NODES};
@@ -36,9 +36,10 @@ fn text_of_found(alloc: Global, sc: &Scenario, plan: &Plan) -> Result<Vec<u8>, N
     Ok(text)
 }
 
-// The text of a gap plan that is accepted.
+// The text of a gap plan that is accepted, with the numbers of the scenario.
 fn text_of_gap(alloc: Global, sc: &Scenario, plan: &GapPlan) -> Result<Vec<u8>, NoMemory>
     requires accepted { GapAccepts sc.now plan.now }
+    requires numbers { plan.now.numbers ≡ numbers_for_lem sc.now }
     requires few { length plan.now.nodes ≤ MOST_GAP_NODES }
     ensures { IfOk result (λ text. IsGapText sc.now plan.now text.items) }
 {

@@ -17,7 +17,7 @@ use search_workers::Gate;
 use std::alloc::Global;
 use std::sync::Wait;
 use std::thread::Threads;
-use tree_format::print_plan_2;
+use tree_format::print_plan_for;
 
 // The text of a scenario, and behind it that of its plan.
 fn text_of_made(
@@ -34,7 +34,7 @@ fn text_of_made(
     made.recall_sound();
     let mut text = Vec::new(alloc);
     print_scenario(&mut text, made)?;
-    print_plan_2(&mut text, made, plan)?;
+    print_plan_for(&mut text, made, plan)?;
     Ok(text)
 }
 

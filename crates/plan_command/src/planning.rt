@@ -4,7 +4,8 @@ ghost use Rattle.std.specs.Prelude.{◌≡◌, ◌≤◌, ◌∷◌, [], length,
 ghost use Rattle.search_workers.specs.Search.{plan_of};
 ghost use Rattle.bound_tree.specs.Places.{AreInPlace};
 ghost use Rattle.bound_tree.specs.declared.tree.TheConstants.{MOST_NODES};
-ghost use Rattle.tree_format.specs.PlanText.{IsPrintable, IsPlanText2};
+ghost use Rattle.tree_format.specs.Dialects.{plan_dialect_for};
+ghost use Rattle.tree_format.specs.PlanText.{IsPrintable, HasLetters, IsWrittenPlan};
 ghost use Rattle.plan_command.specs.Gives.{Gives};
 ghost use Rattle.plan_command.specs.Words.{IsCrew};
 ghost use Rattle.plan_command.specs.Plans.{IsCertified, IsPlanOf, IsUnplanned, PlansFor};
@@ -18,7 +19,7 @@ use search_workers::{Found, Gate, SearchStop, search};
 use std::alloc::Global;
 use std::sync::Wait;
 use std::thread::Threads;
-use tree_format::print_plan_2;
+use tree_format::print_plan_for;
 
 /// The plan of what a search found.
 pub fn plan_found(sc: &Scenario, found: Found) -> Plan
@@ -51,14 +52,15 @@ pub fn plan_from_opening<R: AllocGlobal + Threads + Wait + Sync, G: Gate>(
     }
 }
 
-/// The text of version 2 of a plan whose records have the prefixes that are expected.
+/// The text of a plan whose records have the prefixes that are expected, of the version that the horizon asks for.
 pub fn text_of_plan(alloc: Global, sc: &Scenario, plan: &Plan) -> Result<Vec<u8>, NoMemory>
     requires printable { IsPrintable sc.now plan.now }
+    requires letters { HasLetters (plan_dialect_for sc.now) plan.now }
     requires in_place { AreInPlace sc.now ([] ∷ []) plan.now.tree }
-    ensures { IfOk result (λ text. IsPlanText2 sc.now plan.now text.items) }
+    ensures { IfOk result (λ text. IsWrittenPlan sc.now plan.now text.items) }
 {
     let mut text = Vec::new(alloc);
-    print_plan_2(&mut text, sc, plan)?;
+    print_plan_for(&mut text, sc, plan)?;
     Ok(text)
 }
 

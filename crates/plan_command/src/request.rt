@@ -24,7 +24,7 @@ pub enum Request {
         number: u64,
         workers: u32,
     },
-    /// `convert`: the accepted plan that follows the scenario in the input, as its text of version 2.
+    /// `convert`: the accepted plan that follows the scenario in the input, as its text of the version that the horizon asks for.
     Convert,
     /// `gap [--workers N] [--nodes N]`: plan the scenario of the input with so many workers, until it is planned or so many
     /// records are made.

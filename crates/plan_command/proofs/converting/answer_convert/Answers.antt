@@ -1,10 +1,13 @@
 use Rattle.std.proofs.Common.{true, refl}
 use Rattle.plan_command.proofs.Verdicts.{plan_rejected}
-use Rattle.plan_command.proofs.Converted.{kept_printable, kept_in_place, kept_converted}
+use Rattle.plan_command.proofs.Converted.{kept_printable, kept_lettered, kept_in_place, kept_converted}
 use Rattle.plan_command.proofs.converting.answer_convert.Goals as goal
 
 pub text_of_plan-requires-clause-printable : goal.text_of_plan-requires-clause-printable
 text_of_plan-requires-clause-printable c = kept_printable c.requires.0 c.args.judgement.now c.requires.1
+
+pub text_of_plan-requires-clause-letters : goal.text_of_plan-requires-clause-letters
+text_of_plan-requires-clause-letters c = kept_lettered c.requires.0 c.args.judgement.now c.requires.1 c.in-Accepted.is
 
 pub text_of_plan-requires-clause-in_place : goal.text_of_plan-requires-clause-in_place
 text_of_plan-requires-clause-in_place c = kept_in_place c.requires.0 c.args.judgement.now c.requires.1 c.in-Accepted.is
