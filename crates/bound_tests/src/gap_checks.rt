@@ -11,7 +11,8 @@ use std::test::Fail;
 use tree_checker::{GapRejectAt, GapVerdict, GapWhy, Why, check_gap, gap_why_name};
 use worked_scenarios as worked;
 
-// A node as its letter, its prefix, its number where it has one, and the reference of a tangent; `O` is one that waits.
+// A node as its letter, its prefix, its number where it has one, and the reference of a tangent or the position of an
+// exchange; `O` is one that waits.
 fn node_of(node: &str) -> Option<GapNode> {
     let mut words = node.split(' ');
     let letter = words.next()?;
@@ -169,6 +170,9 @@ const WAITING_FOUR: &str = "\
 2222 15 16 16 edges|B -,O 0 12,O 1 16,O 2 16|Accepted
 2222 15 16 16 edges|B -,O 0 12,O 1 16,B 2,O 21 14,O 22 15|Accepted
 2222 15 16 16 edges|B -,O 0 12,O 1 16,B 2,O 21 16,O 22 15|10 WaitingWrong
+Prefix 01 stands in for 11, and 22 doesn't for 12.
+2222 15 16 16 edges|B -,O 0 12,B 1,O 10 8,X 11 0 0,O 12 14,O 2 16|Accepted
+2222 15 16 16 edges|B -,O 0 12,B 1,O 10 8,X 11 0 0,X 12 12 2,O 2 16|11 NotCut
 ";
 
 #[test]
@@ -180,7 +184,7 @@ fn gap_plans(rt: HostRuntime) -> Result<(), Fail> {
         rows_judged(alloc, worked::WAITING_LONGER, WAITING_LONGER)?,
         8
     );
-    assert_eq!(rt; rows_judged(alloc, worked::WAITING_FOUR, WAITING_FOUR)?, 7);
+    assert_eq!(rt; rows_judged(alloc, worked::WAITING_FOUR, WAITING_FOUR)?, 9);
     Ok(())
 }
 

@@ -32,6 +32,8 @@ mod scouts;
 #[cfg(test)]
 mod tangent_bounds;
 #[cfg(test)]
+mod two_looks;
+#[cfg(test)]
 mod verdicts;
 #[cfg(test)]
 mod walks;

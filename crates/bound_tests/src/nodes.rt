@@ -6,10 +6,16 @@ use path_node::{Scratch, close};
 use search_model::{Path, Scenario, Standing, value};
 use std::alloc::Global;
 use std::test::Fail;
-use worked_scenarios::{BASE_AND_AIR, TWO_RATES, WAITING_LONGER};
+use worked_scenarios::{BASE_AND_AIR, TWO_RATES, WAITING_FOUR, WAITING_LONGER};
 
-// A record's letter, its number, and the reference of a tangent.
+// A record's letter, its number, and the reference of a tangent or the position of an exchange.
 type Told = (char, u128, Path);
+
+fn alone(u: u8) -> Path {
+    let mut path = Path::empty();
+    path.push(u);
+    path
+}
 
 fn told(kind: &Kind) -> Told {
     match kind {
@@ -18,6 +24,7 @@ fn told(kind: &Kind) -> Told {
         Kind::Mean(bound) => ('M', *bound, Path::empty()),
         Kind::Tangent(bound, reference) => ('T', *bound, *reference),
         Kind::Edge(bound) => ('E', *bound, Path::empty()),
+        Kind::Exchange(bound, u) => ('X', *bound, alone(*u)),
     }
 }
 
@@ -39,7 +46,7 @@ fn closed(sc: &Scenario, scratch: &mut Scratch, prefix: &[u8], best: &[u8]) -> O
     }
 }
 
-// A prefix, and what its record tells: the letter, the number, and the reference of a tangent.
+// A prefix, and what its record tells: the letter, the number, and the reference of a tangent or the position of an exchange.
 type Row = (&'static [u8], char, u128, &'static [u8]);
 
 // Whether the records of some prefixes tell this under the standing of a path.
@@ -96,6 +103,24 @@ const TWO_RATES_ROWS: &[Row] = &[
 fn looks_of_two_rates_have_no_tangent(rt: HostRuntime) -> Result<(), Fail> {
     assert!(rt; are_closed(rt.alloc(), TWO_RATES, WAITS, TWO_RATES_ROWS)?);
     crosses_threads::<Scratch>();
+    Ok(())
+}
+
+// Under a path that finds nothing all is left open but what another prefix rules out. For 111 both 101 and 121 stand in, and
+// the one that finds 8 is taken. 22 finds as much as the bound of 12 over it, and is greater.
+const EXCHANGE_ROWS: &[Row] = &[
+    (&[1], 'B', 0, &[]),
+    (&[1, 1], 'X', 0, &[0]),
+    (&[1, 2], 'B', 0, &[]),
+    (&[2, 2], 'B', 0, &[]),
+    (&[1, 1, 1], 'X', 4, &[2]),
+    (&[2, 1, 1], 'X', 10, &[2]),
+    (&[2, 2, 2, 1], 'W', 14, &[]),
+];
+
+#[test]
+fn prefixes_are_closed_by_exchanges(rt: HostRuntime) -> Result<(), Fail> {
+    assert!(rt; are_closed(rt.alloc(), WAITING_FOUR, &[1, 1, 1, 1], EXCHANGE_ROWS)?);
     Ok(())
 }
 

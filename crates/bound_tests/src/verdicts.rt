@@ -64,7 +64,7 @@ pub(crate) fn path_of(digits: &str) -> Option<Path> {
     Some(path)
 }
 
-/// How a record was closed, by its letter.
+/// How a record was closed, by its letter. The position of an exchange is the first of its reference.
 pub(crate) fn kind_of(letter: &str, number: u128, reference: Path) -> Option<Kind> {
     match letter {
         "B" => Some(Kind::Branch),
@@ -72,11 +72,13 @@ pub(crate) fn kind_of(letter: &str, number: u128, reference: Path) -> Option<Kin
         "M" => Some(Kind::Mean(number)),
         "T" => Some(Kind::Tangent(number, reference)),
         "E" => Some(Kind::Edge(number)),
+        "X" => Some(Kind::Exchange(number, *reference.cells().first()?)),
         _ => None,
     }
 }
 
-// A record as its letter, its prefix, its number where it has one, and the reference of a tangent.
+// A record as its letter, its prefix, its number where it has one, and the reference of a tangent or the position of an
+// exchange.
 fn node_of(record: &str) -> Option<TreeNode> {
     let mut words = record.split(' ');
     let letter = words.next()?;
@@ -219,6 +221,34 @@ The prefix of the second edge bound is a path.
 222 7 8|E - 8|5 NotCut
 ";
 
+// Four periods: the target waits in cell 2, and each look there finds half of what is left of 16. Prefix 11 finds nothing, and
+// neither does 01, which is smaller and has no lead. Prefix 211 finds 8, and its lead over 221, which finds 12, is worth 2 at
+// most: its bound is 10. The lead of 12 over 22 is worth 4, so that its bound is the 12 which 22 finds. But 22 is greater: it
+// doesn't stand in, though the plan finds 15.
+const EXCHANGES: &str = "\
+2222 15 16|B -,E 0 12,B 1,M 10 8,X 11 0 0,E 12 14,B 2,B 21,M 210 8,X 211 10 2,M 212 14,B 22,M 221 14,B 222,W 2221 14,W 2222 15|Accepted
+2222 15 16|B -,E 0 12,B 1,M 10 8,X 11 0 0,X 12 12 2|10 NotCut
+What stands in does so under a worse plan, too.
+1222 14 16|B -,E 0 12,B 1,M 10 8,X 11 0 0|10 MissingChild
+2222 15 16|B -,E 0 12,B 1,M 10 8,X 11 1 0|9 BoundWrong
+2222 15 16|B -,E 0 12,B 1,M 10 8,X 11 0 0,X 12 13 2|10 BoundWrong
+The position is the prefix's own, no move leads to it, none leads on from it, or there is none of its number.
+2222 15 16|B -,E 0 12,B 1,M 10 8,X 11 0 1|9 ReferenceWrong
+2222 15 16|B -,E 0 12,B 1,M 10 8,X 11 0 0,E 12 14,B 2,B 21,M 210 8,X 211 10 0|14 ReferenceWrong
+2222 15 16|B -,E 0 12,B 1,M 10 8,X 11 0 0,X 12 12 0|10 ReferenceWrong
+2222 15 16|B -,E 0 12,B 1,M 10 8,X 11 1 3|9 ReferenceWrong
+The prefix has one position, none, or as many as there are periods.
+2222 15 16|B -,X 0 12 1|6 WholeWrong
+2222 15 16|X - 20 1|5 WholeWrong
+2222 15 16|B -,E 0 12,B 1,M 10 8,X 11 0 0,E 12 14,B 2,E 21 14,B 22,M 221 14,B 222,X 2221 14 1|16 WholeWrong
+";
+
+// In three periods there are no exchanges.
+const NO_EXCHANGES: &str = "\
+222 7 8|B -,M 0 4,B 1,M 10 0,X 11 0 0|9 WholeWrong
+222 7 8|B -,M 0 4,B 1,M 10 0,X 11 0 1|9 WholeWrong
+";
+
 const MORE_POSITIONS_THAN_CELLS: &str = "\
 1 1 2|B -,W 0 0,W 1 1|Accepted
 The base covers no cell, though there is one of its number.
@@ -255,6 +285,17 @@ fn plans_with_bounds(rt: HostRuntime) -> Result<(), Fail> {
         6
     );
     assert_eq!(rt; rows_judged(alloc, worked::TWO_RATES, EDGE_BOUNDS)?, 5);
+    Ok(())
+}
+
+#[test]
+fn plans_with_exchanges(rt: HostRuntime) -> Result<(), Fail> {
+    let alloc = rt.alloc();
+    assert_eq!(rt; rows_judged(alloc, worked::WAITING_FOUR, EXCHANGES)?, 12);
+    assert_eq!(rt;
+        rows_judged(alloc, worked::WAITING_LONGER, NO_EXCHANGES)?,
+        2
+    );
     Ok(())
 }
 

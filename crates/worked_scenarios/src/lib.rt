@@ -139,6 +139,27 @@ rate 0
 end
 ";
 
+/// Three cells and four periods; the target stays, and no look misses. Who comes to `a` by `b` finds what a second look at `a`
+/// doesn't, and neither gets to `b` after it.
+pub const BY_THE_WAY: &str = "\
+scenario 1
+horizon 4
+parts 13 1 1
+cell a
+cell b
+cell c
+start b
+first a 6 b 1 c 6
+moves a a c
+moves b a b
+moves c a
+drift a a 1
+drift b b 1
+drift c c 1
+rate 0
+end
+";
+
 /// One cell, one period, and two positions: a look from the base covers nothing, and one from the air covers the cell and
 /// misses 1 of 2.
 pub const BASE_AND_AIR: &str = "\

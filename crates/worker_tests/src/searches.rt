@@ -13,7 +13,7 @@ use std::sync::Wait;
 use std::sync::atomic::{AtomicU64, Ordering};
 use std::test::Fail;
 use std::thread::Threads;
-use worked_scenarios::{FOUR_CELLS, TWO_CELLS};
+use worked_scenarios::{BY_THE_WAY, FOUR_CELLS, TWO_CELLS};
 
 // The scenario of a text.
 fn scenario_of(alloc: Global, text: &str) -> Result<Scenario, Fail> {
@@ -55,12 +55,29 @@ const UNDER_THE_BEST: [Row; 5] = [
     (b'W', 6, &[2, 3]),
 ];
 
+// The records of one worker over three cells. Two looks at the first cell find 6. The second cell in place of the first of
+// them makes it 7; of what it has found no later look finds more, since none gets there.
+const BY_AN_EXCHANGE: [Row; 11] = [
+    (b'B', 0, &[]),
+    (b'B', 0, &[0]),
+    (b'X', 6, &[0, 0]),
+    (b'M', 12, &[0, 2]),
+    (b'B', 0, &[1]),
+    (b'B', 0, &[1, 0]),
+    (b'B', 0, &[1, 0, 0]),
+    (b'W', 7, &[1, 0, 0, 0]),
+    (b'W', 13, &[1, 0, 0, 2]),
+    (b'M', 13, &[1, 0, 2]),
+    (b'M', 13, &[1, 1]),
+];
+
 // The letter of a kind, and its number if any.
 fn letter_of(kind: &Kind) -> (u8, u128) {
     match kind {
         Kind::Branch => (b'B', 0),
         Kind::Whole(value) => (b'W', *value),
         Kind::Mean(bound) => (b'M', *bound),
+        Kind::Exchange(bound, _) => (b'X', *bound),
         _ => (b'?', 0),
     }
 }
@@ -170,6 +187,26 @@ fn the_best_paths_are_found_by_1_2_and_16_workers(rt: HostRuntime) -> Result<(),
         );
     }
     assert!(rt; finds_the_better(&rt, 1, &OpenGate, &[&UNDER_THE_OPENING])?);
+    Ok(())
+}
+
+// Whether the third record of a search says that a position goes in the place of the last but one.
+fn goes_by(found: &Found, position: u8) -> bool {
+    match found.tree.nodes() {
+        [_, _, node, ..] => match node.kind {
+            Kind::Exchange(_, by) => by == position,
+            _ => false,
+        },
+        _ => false,
+    }
+}
+
+#[test]
+fn a_prefix_is_closed_by_another_that_stands_in_for_it(rt: HostRuntime) -> Result<(), Fail> {
+    let found = found_in(&rt, BY_THE_WAY, 1, &OpenGate)?;
+    assert!(rt; is_standing(&found.best, 13, &[1, 0, 0, 2]));
+    assert!(rt; is_tree(found.tree.nodes(), &BY_AN_EXCHANGE));
+    assert!(rt; goes_by(&found, 1));
     Ok(())
 }
 
