@@ -86,10 +86,27 @@ fn changes_of(alloc: Global, told: &[Told]) -> Result<Vec<DriftChange>, AllocErr
         .try_collect(alloc)
 }
 
+// What is made of a drift with these changes.
+fn with_changes(
+    alloc: Global,
+    drift: Drift,
+    told: &[Told],
+) -> Result<Result<Drift, ChangeFault>, Fail>
+    requires { drift.changes ≡ [] }
+{
+    match changes_of(alloc, told) {
+        Ok(changes) => Ok(drift.in_periods(alloc, changes)),
+        Err(refused) => {
+            drop(drift);
+            Err(Fail::from(refused))
+        }
+    }
+}
+
 // What is made of these changes of a drift over two cells, each of which keeps the target.
 fn changed(alloc: Global, told: &[Told]) -> Result<Result<Drift, ChangeFault>, Fail> {
     match drift_of(alloc, 2, &[&[(0, 2)], &[(1, 2)]])? {
-        Ok(drift) => Ok(drift.in_periods(alloc, changes_of(alloc, told)?)),
+        Ok(drift) => with_changes(alloc, drift, told),
         Err(_) => Err(Fail::from("no drift")),
     }
 }

@@ -24,7 +24,9 @@ fn has_side_neighbours(grid: &Grid) -> bool {
 #[test]
 fn moves_come_in_ascending_order(rt: HostRuntime) -> Result<(), Fail> {
     let grid = Grid::new(rows_of(rt.alloc(), &[&[1, 0], &[0]])?)?;
-    assert!(rt; has_moves_in_order(&grid));
+    let ordered = has_moves_in_order(&grid);
+    drop(grid);
+    assert!(rt; ordered);
     crosses_threads::<Grid>();
     Ok(())
 }
@@ -32,7 +34,9 @@ fn moves_come_in_ascending_order(rt: HostRuntime) -> Result<(), Fail> {
 #[test]
 fn a_field_has_side_neighbours(rt: HostRuntime) -> Result<(), Fail> {
     let grid = Grid::four_neighbour(rt.alloc(), 3, 3)?;
-    assert!(rt; has_side_neighbours(&grid));
+    let beside = has_side_neighbours(&grid);
+    drop(grid);
+    assert!(rt; beside);
     Ok(())
 }
 

@@ -102,7 +102,9 @@ pub(crate) fn made(alloc: Global, number: u64) -> Result<Scenario, Fail> {
 fn numbers_give_what_is_drawn_for_them(rt: HostRuntime) -> Result<(), Fail> {
     for row in ROWS {
         let scenario = made(rt.alloc(), row.number)?;
-        assert!(rt; is_drawn(&scenario, &row), "the number {}", row.number);
+        let drawn = is_drawn(&scenario, &row);
+        drop(scenario);
+        assert!(rt; drawn, "the number {}", row.number);
     }
     Ok(())
 }
@@ -127,8 +129,12 @@ fn has_side_neighbours(scenario: &Scenario) -> bool {
 #[test]
 fn cells_are_named_by_row_and_column(rt: HostRuntime) -> Result<(), Fail> {
     let scenario = made(rt.alloc(), 0)?;
-    assert_eq!(rt; scenario.start(), 7);
-    assert!(rt; has_names(&scenario));
-    assert!(rt; has_side_neighbours(&scenario));
+    let start = scenario.start();
+    let named = has_names(&scenario);
+    let beside = has_side_neighbours(&scenario);
+    drop(scenario);
+    assert_eq!(rt; start, 7);
+    assert!(rt; named);
+    assert!(rt; beside);
     Ok(())
 }

@@ -27,6 +27,8 @@ fn goes_apart(sc: &Scenario, both: &Path, first: &[u8], second: &[u8]) -> bool {
 fn a_path_for_two_goes_apart(rt: HostRuntime) -> Result<(), Fail> {
     let both = Path::of(&[57, 24, 0, 255]).ok_or("no path")?;
     let sc = made(rt.alloc(), 0)?;
-    assert!(rt; goes_apart(&sc, &both, &[2, 0, 0, 10], &[7, 24, 0, 5]));
+    let apart = goes_apart(&sc, &both, &[2, 0, 0, 10], &[7, 24, 0, 5]);
+    drop(sc);
+    assert!(rt; apart);
     Ok(())
 }

@@ -23,7 +23,9 @@ fn are_the_first_two(fields: &[&[u8]]) -> bool {
 #[test]
 fn fields_from_the_front(rt: HostRuntime) -> Result<(), Fail> {
     let fields = first_fields(rt.alloc(), LINE, 2)?;
-    assert!(rt; are_the_first_two(&fields));
+    let two = are_the_first_two(&fields);
+    drop(fields);
+    assert!(rt; two);
     assert_eq!(rt; skip_blanks(after_field(LINE)), b"a 1\r".as_slice());
     assert_eq!(rt;
         cut(LINE, b' '),

@@ -42,10 +42,26 @@ fn one_covers_both(alloc: Global) -> Result<Sweep, Fail>
     }
 }
 
-// What is made of these with changes.
+// What is made of looks with these changes.
+fn with_changes(
+    alloc: Global,
+    sweep: Sweep,
+    told: &[Told],
+) -> Result<Result<Sweep, LookChangeFault>, Fail>
+    requires { sweep.changes ≡ [] }
+{
+    match changes_of(alloc, told) {
+        Ok(changes) => Ok(sweep.in_periods(alloc, changes)),
+        Err(refused) => {
+            drop(sweep);
+            Err(Fail::from(refused))
+        }
+    }
+}
+
+// What is made of these two positions with changes.
 fn changed(alloc: Global, told: &[Told]) -> Result<Result<Sweep, LookChangeFault>, Fail> {
-    let changes = changes_of(alloc, told)?;
-    Ok(one_covers_both(alloc)?.in_periods(alloc, changes))
+    with_changes(alloc, one_covers_both(alloc)?, told)
 }
 
 // What is made of looks at the cells of these parts, out of 2.
@@ -83,7 +99,11 @@ fn the_least_cell_over_is_named(rt: HostRuntime) -> Result<(), Fail> {
 // The one rate of looks at cells of these parts.
 fn one_rate_of(alloc: Global, parts: &[u32]) -> Result<Option<u32>, Fail> {
     match looks_of(alloc, parts)? {
-        Ok(sweep) => Ok(sweep.one_rate(1)),
+        Ok(sweep) => {
+            let rate = sweep.one_rate(1);
+            drop(sweep);
+            Ok(rate)
+        }
         Err(_) => Err(Fail::from("no sweep")),
     }
 }
@@ -246,7 +266,7 @@ fn changes_in_the_second_period(sweep: &Sweep) -> bool {
 // What is made of a plain sweep with a change.
 fn plain_changed(alloc: Global) -> Result<Result<Sweep, LookChangeFault>, Fail> {
     match looks_of(alloc, &[1, 2])? {
-        Ok(plain) => Ok(plain.in_periods(alloc, changes_of(alloc, &[(2, 0, &[(1, 0)])])?)),
+        Ok(plain) => with_changes(alloc, plain, &[(2, 0, &[(1, 0)])]),
         Err(_) => Err(Fail::from("no sweep")),
     }
 }

@@ -26,13 +26,6 @@ pub fn cells_named(
         .collect(alloc)
 }
 
-/// Whether a name isn't a cell's.
-pub fn any_unknown(cells: &[Option<u8>]) -> bool
-    ensures { result ≡ list_any (λ c. is_none c) cells.now }
-{
-    cells.iter().any(|c| c.is_none())
-}
-
 fn is_cell(cell: Option<u8>, c: u8) -> bool
     ensures { result ≡ (is_some cell && (unwrap_or cell 0 == c)) }
 {

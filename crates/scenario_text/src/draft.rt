@@ -3,7 +3,7 @@ use indexmap::IndexSet;
 use period_rows::GivenChange;
 
 /// The version of a text.
-#[derive(Clone, Copy, Debug, PartialEq, Eq)]
+#[derive(Clone, Copy)]
 pub enum TextVersion {
     /// The positions of the searcher are the cells.
     One,
@@ -12,7 +12,7 @@ pub enum TextVersion {
 }
 
 /// The line that is due.
-#[derive(Clone, Copy, Debug, PartialEq, Eq)]
+#[derive(Clone, Copy)]
 pub enum Stage {
     Version,
     Horizon,

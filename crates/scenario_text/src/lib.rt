@@ -11,6 +11,7 @@ mod kind;
 mod laws;
 mod line;
 mod line_rows;
+mod lists;
 mod number_field;
 mod pair;
 mod pairs;

@@ -6,7 +6,7 @@ ghost use Rattle.scenario_text.specs.KindTable.{with_keyword, head_due as head_d
 use crate::draft::{Stage, TextVersion};
 
 /// The lines.
-#[derive(Clone, Copy, Debug, PartialEq, Eq)]
+#[derive(Clone, Copy)]
 pub enum Line {
     Scenario,
     Horizon,

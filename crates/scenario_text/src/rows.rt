@@ -14,10 +14,11 @@ ghost use Rattle.scenario_text.specs.Fields.{are_even, are_pairs, cell_named as 
 ghost use Rattle.scenario_text.specs.ByCells.{pairs_of};
 
 use crate::cell_names::{cell_named, positions_of};
-use crate::cells::{any_unknown, cells_named, has_double, numbers_of};
+use crate::cells::{cells_named, has_double, numbers_of};
 use crate::draft::Draft;
 use crate::kind::TextKind;
 use crate::line::Line;
+use crate::lists::any_none;
 use crate::number_field::{MOST_PART, is_bad, is_over, number_at, number_in};
 use crate::pairs::{Scan, row_owner, scan_pairs, scan_some_pairs, total_of};
 use crate::stop::LineStop;
@@ -47,7 +48,7 @@ fn set_moves(
     let Some(c) = cell else {
         return Err(LineStop::Fault(TextKind::UnknownName));
     };
-    if any_unknown(moves) {
+    if any_none(moves) {
         return Err(LineStop::Fault(TextKind::UnknownName));
     }
     if has_double(moves) {

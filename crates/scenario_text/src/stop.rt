@@ -4,7 +4,7 @@ use crate::kind::{TextFault, TextKind};
 use std::alloc::{AllocError, AllocFailed};
 
 /// Why a line was not taken.
-#[derive(Clone, Copy, Debug, PartialEq, Eq)]
+#[derive(Clone, Copy)]
 pub enum LineStop {
     Fault(TextKind),
     NoMemory,

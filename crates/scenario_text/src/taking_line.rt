@@ -1,7 +1,7 @@
 //! One line, by its keyword.
 
-ghost use Rattle.std.specs.Prelude.{◌≡◌, ◌==◌, ◌∷◌, [], map, take, length, nat_lt, is_none};
-ghost use Rattle.std.specs.List.{list_all, list_any};
+ghost use Rattle.std.specs.Prelude.{◌≡◌, ◌∷◌, [], map, take, length, nat_lt};
+ghost use Rattle.std.specs.List.{list_all};
 ghost use Rattle.text_rows.specs.Fields.{fields_of as fields_lem, is_text_byte as is_text_byte_lem};
 ghost use Rattle.scenario_text.specs.Fields.{says_nothing as says_nothing_lem};
 ghost use Rattle.scenario_text.specs.State.{state_of};
@@ -15,6 +15,7 @@ ghost use Rattle.scenario_text.specs.Grammar.{row_at, fields_at};
 use crate::draft::{Draft, Stage};
 use crate::kind::TextKind;
 use crate::line::{Line, line_due};
+use crate::lists::{any_empty, any_none};
 use crate::rows::{take_drift, take_look, take_moves, take_overlook};
 use crate::rows_in_period::{take_drift_in, take_look_in};
 use crate::shorthands::{take_grid, take_rate, take_spread};
@@ -22,7 +23,6 @@ use crate::stop::LineStop;
 use crate::taking::{
     take_cell, take_first, take_horizon, take_parts, take_position, take_start, take_version,
 };
-use drift_chain::DriftPart;
 use exact_parts::fits;
 use std::alloc::Global;
 use text_rows::{after_field, first_fields};
@@ -51,37 +51,13 @@ fn says_nothing(fields: &[&[u8]]) -> bool
     }
 }
 
-fn any_no_moves(rows: &[Vec<u8>]) -> bool
-    ensures { result ≡ list_any (λ row. length row.items == 0) rows.now }
-{
-    rows.iter().any(|row| row.is_empty())
-}
-
-fn any_no_parts(rows: &[Vec<DriftPart>]) -> bool
-    ensures { result ≡ list_any (λ row. length row.items == 0) rows.now }
-{
-    rows.iter().any(|row| row.is_empty())
-}
-
-fn any_no_overlook(parts: &[Option<u32>]) -> bool
-    ensures { result ≡ list_any (λ o. is_none o) parts.now }
-{
-    parts.iter().any(|o| o.is_none())
-}
-
-fn any_no_look(rows: &[Option<Vec<DriftPart>>]) -> bool
-    ensures { result ≡ list_any (λ o. is_none o) rows.now }
-{
-    rows.iter().any(|o| o.is_none())
-}
-
 fn lacks_row(draft: &Draft) -> bool
     ensures { result ≡ lacks_row_lem (state_of draft.now) }
 {
-    any_no_moves(&draft.moves)
-        || any_no_parts(&draft.parts)
-        || any_no_overlook(&draft.overlook)
-        || any_no_look(&draft.looks)
+    any_empty(&draft.moves)
+        || any_empty(&draft.parts)
+        || any_none(&draft.overlook)
+        || any_none(&draft.looks)
 }
 
 /// `end`

@@ -5,9 +5,9 @@ use Rattle.scenario_text.specs.State.{state_of}
 use Rattle.scenario_text.proofs.ByCellNames.{moves_named}
 use Rattle.scenario_text.proofs.rows.set_moves.Goals as goal
 
-pub returns-then-any_unknown : goal.returns-then-any_unknown
+pub returns-then-any_none : goal.returns-then-any_none
 unfolding moves_from
-returns-then-any_unknown c = λ name fields le one all. moves_named (state_of c.args.draft.now) fields name c.args.cell c.args.moves.now le one all ∙ search rules
+returns-then-any_none c = λ name fields le one all. moves_named (state_of c.args.draft.now) fields name c.args.cell c.args.moves.now le one all ∙ search rules
 
 pub returns-then-has_double : goal.returns-then-has_double
 unfolding moves_from
