@@ -3,18 +3,18 @@
 One worker's plan follows from the rules: it closes the last prefix of its private stack, or else the first task of its own
 deque, under the best standing that it knows by then. The children of a prefix that branches and is shorter than half the horizon
 go into the deque, all but the least; all others go on the stack, the least of them on top. Where the horizon is 4 or more a
-scout flies first. Where only so many records may be made, the prefixes that are left then wait: by their mean bounds, and where the
-horizon is 4 or more by their edge bounds.
+scout flies first, and a prefix that no bound closes under the standing is closed by the best of the prefixes that stand in for it. Where
+only so many records may be made, the prefixes that are left then wait: by their mean bounds, and where the horizon is 4 or more by
+their edge bounds.
 """
 import collections
 
 from desk import derived, paths, verdict
-from desk.forms import GAPS, read_scenario
+from desk.forms import GAPS, gap_line, plan_line, read_scenario
 from desk.writing import scenario_text
 
-# From so many periods on a scout flies, and prefixes wait by their edge bounds.
+# From so many periods on a scout flies.
 SCOUTED_FROM = 4
-EDGES_FROM = 4
 # So many tasks a deque takes in its life.
 MOST_PUTS = 4096
 
@@ -27,21 +27,10 @@ def moves(sc, prefix):
     return sc.moves[prefix[-1] if prefix else sc.start]
 
 
-def rewards(sc, prefix):
-    """What each later look finds after the looks of a prefix and no others, by period and position."""
-    d, g = sc.parts[1:]
-    _, belief = verdict.after(sc, prefix)
-    found = []
-    for t in range(len(prefix) + 1, sc.horizon + 1):
-        scale = d ** (sc.horizon - t) * g ** (sc.horizon - len(prefix) - 1)
-        found.append([verdict.found(sc, belief, t, it) * scale for it in range(len(sc.positions))])
-        belief = verdict.spread(sc, belief, t)
-    return found
-
-
 def reached(sc, prefix):
     """The least path by which the mean bound of a prefix reaches its greatest sum."""
-    found = rewards(sc, prefix)
+    total, belief = verdict.after(sc, prefix)
+    found = verdict.rewards(sc, len(prefix), belief)
     rest = [[0] * len(sc.positions)]
     for here in reversed(found):
         rest.insert(0, [max(here[to] + rest[0][to] for to in sc.moves[it]) for it in range(len(here))])
@@ -49,7 +38,6 @@ def reached(sc, prefix):
     for here, later in zip(found, rest[1:]):
         path.append(min(moves(sc, path), key=lambda to: (-here[to] - later[to], to)))
     if found:
-        total = verdict.after(sc, prefix)[0]
         assert total + rest[0][prefix[-1] if prefix else sc.start] == verdict.mean(sc, prefix)
     return path
 
@@ -95,6 +83,14 @@ def better(standing, other):
     return standing[0] > other[0] or standing[0] == other[0] and standing[1] < other[1]
 
 
+def stand_in(sc, prefix):
+    """Of the positions with which a prefix, in place of its last but one, stands in for itself, the one with which it finds most, the least
+    of equals; or None."""
+    others = [verdict.exchanged(prefix, it) for it in range(len(sc.positions)) if verdict.takes_place(sc, prefix, it)]
+    best = sorted(others, key=lambda it: (-verdict.after(sc, it)[0], it))
+    return next((it[-2] for it in best if verdict.stands_in(sc, it, prefix)), None)
+
+
 def closed(sc, prefix, standing):
     """How a prefix is closed under a standing: the letter of the record, and what stands behind it."""
     value, path = standing
@@ -109,7 +105,10 @@ def closed(sc, prefix, standing):
         if verdict.is_cut(tangent, value * sc.parts[2], prefix, path):
             return "T", [tangent, *reference]
     edge = verdict.edge(sc, prefix)
-    return ("E", [edge]) if verdict.is_cut(edge, value, prefix, path) else ("B", [])
+    if verdict.is_cut(edge, value, prefix, path):
+        return "E", [edge]
+    position = stand_in(sc, prefix) if verdict.has_exchanges(sc, prefix) else None
+    return ("B", []) if position is None else ("X", [verdict.exchange(sc, prefix, verdict.exchanged(prefix, position)), position])
 
 
 class Worker:
@@ -158,13 +157,8 @@ def lines_of(sc, worker, first, more, records):
 
 
 def text_of(sc, worker):
-    """The plan as text of version 2."""
-    return lines_of(sc, worker, "plan 2", [], worker.records)
-
-
-def gap_line(sc):
-    """The first line of a gap plan of this scenario that `gap` writes."""
-    return b"gap 2" if sc.horizon >= EDGES_FROM else b"gap 1"
+    """The plan as text."""
+    return lines_of(sc, worker, plan_line(sc).decode(), [], worker.records)
 
 
 def gap_of(sc, worker):

@@ -135,6 +135,7 @@ RECORDS = {
     b"M": ("mean bound", "mean bounds"),
     b"T": ("tangent bound", "tangent bounds"),
     b"E": ("edge bound", "edge bounds"),
+    b"X": ("exchange bound", "exchange bounds"),
     b"O": ("prefix that waits", "prefixes that wait"),
 }
 
@@ -147,8 +148,17 @@ def sizes(sc, plan):
     yield f"records: {len(plan.records):,}, of them {', '.join(told)}"
 
 
+def exchanges(sc, plan):
+    """What the exchange bounds of a plan say, by the shortest prefix that has one."""
+    found = [(prefix, position) for letter, _, prefix, reference in plan.records if letter == b"X" for position in reference]
+    if found:
+        prefix, position = min(found, key=lambda it: len(it[0]))
+        way, by = rejection.path_of(sc, prefix), quoting.name(sc.positions[position])
+        yield f"an exchange bound, such as that of {way}: whatever comes behind it, by {by} in period {len(prefix) - 1} the same end finds at least as much"
+
+
 def of_right(text, plan=None):
-    """The warnings of a right scenario, and of its accepted plan its size and its warnings."""
+    """The warnings of a right scenario, and of its accepted plan its size, what its exchanges say, and its warnings."""
     try:
         sc, _ = forms.read_scenario(text, plan is None)
     except forms.Fault as fault:
@@ -156,7 +166,7 @@ def of_right(text, plan=None):
     told, size = advice.warnings(sc), []
     if plan and len(plan) < rejection.MOST_BYTES:
         read = forms.read_plan(plan, sc, forms.family_of(plan))
-        size = sizes(sc, read)
+        size = [*sizes(sc, read), *exchanges(sc, read)]
         # Of a gap plan whose path may not be the best nothing is said.
         told += advice.about_plan(sc, read) if read.ceiling == read.value else []
     return [*size, *(f"perhaps not meant: {it}" for it in told)]

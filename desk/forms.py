@@ -310,14 +310,28 @@ class Dialect(NamedTuple):
 
 # Each family of texts: its dialects by their first lines.
 PLAN_HEAD, GAP_HEAD = (b"path", b"chance", b"nodes"), (b"path", b"chance", b"ceiling", b"nodes")
+LETTERS = (b"B", b"W", b"M", b"T")
 PLANS = {
-    b"plan 1": Dialect(1, PLAN_HEAD, MOST_NODES, (b"B", b"W", b"M", b"T"), has_prefixes=True),
-    b"plan 2": Dialect(2, PLAN_HEAD, MOST_NODES, (b"B", b"W", b"M", b"T", b"E")),
+    b"plan 1": Dialect(1, PLAN_HEAD, MOST_NODES, LETTERS, has_prefixes=True),
+    b"plan 2": Dialect(2, PLAN_HEAD, MOST_NODES, (*LETTERS, b"E")),
+    b"plan 3": Dialect(3, PLAN_HEAD, MOST_NODES, (*LETTERS, b"E", b"X")),
 }
 GAPS = {
-    b"gap 1": Dialect(1, GAP_HEAD, MOST_GAP_NODES, (b"B", b"W", b"M", b"T", b"E", b"O"), waits_by=b"M"),
-    b"gap 2": Dialect(2, GAP_HEAD, MOST_GAP_NODES, (b"B", b"W", b"M", b"T", b"E", b"O"), waits_by=b"E"),
+    b"gap 1": Dialect(1, GAP_HEAD, MOST_GAP_NODES, (*LETTERS, b"E", b"O"), waits_by=b"M"),
+    b"gap 2": Dialect(2, GAP_HEAD, MOST_GAP_NODES, (*LETTERS, b"E", b"X", b"O"), waits_by=b"E"),
 }
+# From so many periods on plans are written in version 3, and gap plans in version 2.
+LATEST_FROM = 4
+
+
+def plan_line(sc):
+    """The first line of a plan of this scenario as it is written."""
+    return b"plan 3" if sc.horizon >= LATEST_FROM else b"plan 2"
+
+
+def gap_line(sc):
+    """The first line of a gap plan of this scenario as it is written."""
+    return b"gap 2" if sc.horizon >= LATEST_FROM else b"gap 1"
 
 
 def family_of(text):
@@ -327,7 +341,7 @@ def family_of(text):
 
 class Plan:
     """A plan or a gap plan: its dialect, path, value and weight, its ceiling, which is the value of a plan, and of each record the
-    letter, the number if any, the prefix and the reference."""
+    letter, the number if any, the prefix and the reference: a tangent's path, an exchange's position, and else nothing."""
 
 
 def wide(field):
@@ -340,8 +354,9 @@ def wide(field):
 class PlanReader:
     """Takes the lines of a text of one of the families, one after another."""
 
-    # For each letter, whether a number stands before its positions, and the least and most horizons of positions.
-    RECORDS = {b"B": (0, 0, 1), b"W": (1, 0, 1), b"M": (1, 0, 1), b"T": (1, 1, 2), b"E": (1, 0, 1), b"O": (1, 0, 1)}
+    # For each letter, whether a number stands before its positions, and the reference that ends them: so many horizons of positions, and
+    # so many positions.
+    RECORDS = {b"B": (0, 0, 0), b"W": (1, 0, 0), b"M": (1, 0, 0), b"T": (1, 1, 0), b"E": (1, 0, 0), b"X": (1, 0, 1), b"O": (1, 0, 0)}
 
     def __init__(self, sc, family=PLANS):
         self.sc, self.family = sc, family
@@ -394,15 +409,16 @@ class PlanReader:
 
     def take_record(self, word, fields):
         need(word in self.dialect.letters, "BadLine")
-        count, least, most = self.RECORDS[word]
-        most = most if self.dialect.has_prefixes else least
-        need(count + least * self.sc.horizon <= len(fields) <= count + most * self.sc.horizon, "BadLine")
+        count, paths, positions = self.RECORDS[word]
+        reference = paths * self.sc.horizon + positions
+        longest = self.sc.horizon if self.dialect.has_prefixes else 0
+        need(count + reference <= len(fields) <= count + longest + reference, "BadLine")
         bound = wide(fields[0]) if count else None
         need(all(it in self.positions for it in fields[count:]), "BadNumber")
         need(len(self.plan.records) < self.plan.nodes, "WrongCount")
         need(self.dialect.has_prefixes or self.expected, "NoPlace")
         named = [self.positions[it] for it in fields[count:]]
-        ends = len(named) - least * self.sc.horizon
+        ends = len(named) - reference
         prefix = named[:ends] if self.dialect.has_prefixes else self.place(word)
         self.plan.records.append((word, bound, prefix, named[ends:]))
 
@@ -414,13 +430,16 @@ class PlanReader:
         return prefix
 
 
-def in_version_1(text, sc):
-    """The text of version 1 of a plan whose text of version 2 this is, or that text where a record is an edge bound."""
-    plan = read_plan(text, sc)
-    if any(letter == b"E" for letter, *_ in plan.records):
+def in_version(text, sc, first):
+    """The text of a plan in the version of this first line, or as it is where that has no letter for a record."""
+    plan, dialect = read_plan(text, sc), PLANS[first]
+    if any(letter not in dialect.letters for letter, *_ in plan.records):
         return text
-    rows = ([letter, *([] if bound is None else [b"%d" % bound]), *(b"%d" % it for it in prefix + path)] for letter, bound, prefix, path in plan.records)
-    return b"\n".join([b"plan 1", *text.split(b"\n")[1:4], *(b" ".join(it) for it in rows), b"end", b""])
+    rows = []
+    for letter, bound, prefix, reference in plan.records:
+        numbers = [*([] if bound is None else [bound]), *(prefix if dialect.has_prefixes else []), *reference]
+        rows.append(b" ".join([letter, *(b"%d" % it for it in numbers)]))
+    return b"\n".join([first, *text.split(b"\n")[1:4], *rows, b"end", b""])
 
 
 def read_plan(text, sc, family=PLANS):

@@ -58,6 +58,11 @@ def listed(words):
     return ", ".join(words) if more < 2 else f"{', '.join(words[:MOST_LISTED])} and {more:,} more"
 
 
+def either(words):
+    """Words of which one is meant: `a`, `b` or `c`."""
+    return " or ".join(it for it in (", ".join(words[:-1]), words[-1]) if it)
+
+
 def runs(numbers):
     """Ascending numbers with runs of neighbours as one: 3, 7 to 9."""
     found = []

@@ -5,8 +5,16 @@ from desk import forms, paths, quoting, verdict
 # periods: each takes some seconds.
 MOST_BYTES = 64 << 20
 MOST_CHECKED = 400_000
-RECORDS = {b"B": "a branch", b"W": "a whole path", b"M": "a mean bound", b"T": "a tangent bound", b"E": "an edge bound", b"O": "a prefix that waits"}
-BOUNDS = {b"M": "mean", b"T": "tangent", b"E": "edge"}
+RECORDS = {
+    b"B": "a branch",
+    b"W": "a whole path",
+    b"M": "a mean bound",
+    b"T": "a tangent bound",
+    b"E": "an edge bound",
+    b"X": "an exchange bound",
+    b"O": "a prefix that waits",
+}
+BOUNDS = {b"M": "mean", b"T": "tangent", b"E": "edge", b"X": "exchange"}
 # The number of a prefix that waits, by the letter of the bound by which it does.
 CEILINGS = {b"M": "their mean bound", b"E": "the lesser of their edge bound and the whole weight"}
 PLAN = "a plan isn't mended by hand: `./osp plan` makes it anew, and `./osp gap` a gap plan"
@@ -76,6 +84,9 @@ def about_extra(sc, plan, line):
 def about_whole(sc, plan, line):
     """A record of a whole path with a wrong length or value."""
     letter, stated, prefix, _ = plan.records[number_of(plan, line)]
+    if letter == b"X" and len(prefix) < sc.horizon:
+        asks = f"an exchange asks for {verdict.EXCHANGES_FROM} periods or more, and for a prefix of 2 positions or more"
+        return f"{asks}: here the horizon is {quoting.counted(sc.horizon, 'period')}, and the prefix has {quoting.counted(len(prefix), 'position')}"
     if letter != b"W":
         return f"{RECORDS[letter]} stands at {path_of(sc, prefix)}, which is a whole path: it takes a record W with its value"
     if len(prefix) != sc.horizon:
@@ -89,21 +100,35 @@ def about_rate(sc, _plan, _line):
 
 
 def about_reference(sc, plan, line):
-    _, _, prefix, path = plan.records[number_of(plan, line)]
-    return f"the tangent's path {path_of(sc, path)} isn't a legal path that belongs to {beginning(sc, prefix)}"
+    """A path that a tangent can't be at, or a position that can't take the place of a prefix's last but one."""
+    letter, _, prefix, reference = plan.records[number_of(plan, line)]
+    if letter == b"T":
+        return f"the tangent's path {path_of(sc, reference)} isn't a legal path that belongs to {beginning(sc, prefix)}"
+    (position,) = reference
+    here, period = quoting.name(sc.positions[position]), len(prefix) - 1
+    if position == prefix[-2]:
+        return f"{path_of(sc, prefix)} has {here} in period {period} itself: an exchange puts another position there"
+    before, own, behind = [sc.start, *prefix][-3:]
+    way = (before, position) if position not in sc.moves[before] else (position, behind)
+    why = " to ".join(quoting.name(sc.positions[it]) for it in way)
+    return f"{here} can't take the place of {quoting.name(sc.positions[own])} in period {period}: no move leads from {why}"
 
 
 def about_bound(sc, plan, line):
     """A bound that isn't the prefix's."""
-    letter, stated, prefix, path = plan.records[number_of(plan, line)]
-    right = verdict.right(sc, letter, prefix, path)
+    letter, stated, prefix, reference = plan.records[number_of(plan, line)]
+    right = verdict.right(sc, letter, prefix, reference)
     way = "less: a better path might hide behind it" if stated < right else "more"
     return f"{RECORDS[letter]} of {stated} is stated for {beginning(sc, prefix)}; the right one is {right}, and what is stated is {way}"
 
 
 def about_cut(sc, plan, line):
     """A record that leaves room for a better path."""
-    letter, stated, prefix, _ = plan.records[number_of(plan, line)]
+    letter, stated, prefix, reference = plan.records[number_of(plan, line)]
+    if letter == b"X":
+        value, other = verdict.standing(sc, plan, letter, prefix, reference)
+        over = f"over {path_of(sc, other)}, which finds {value} by then,"
+        return f"{over} the exchange bound of {beginning(sc, prefix)} is {stated}: one of them may find more than the same behind the other, so that records below are needed"
     if letter == b"W":
         better = "more" if stated > plan.value else "as much, and has smaller position numbers"
         return f"the path {path_of(sc, prefix)} finds {stated}, which is {better}: the plan's path finds {plan.value} and isn't the best"
@@ -190,7 +215,7 @@ def no_plan(sc, text, line, kind):
         return f"this scenario has no position {quoting.listed(lacking)}: is it the plan of another one?"
     if kind == "BadLine" and line == 1:
         hint = ": that is a scenario; the scenario comes first, and then the plan" if here.startswith((b"scenario", b"#")) else ""
-        plans, gaps = (" or ".join(f"`{it.decode()}`" for it in family) for family in (forms.PLANS, forms.GAPS))
+        plans, gaps = (quoting.either([f"`{it.decode()}`" for it in family]) for family in (forms.PLANS, forms.GAPS))
         return f"a plan begins with {plans}, and a gap plan with {gaps}{hint}"
     if kind == "BadLine" and not here:
         return "the line is empty, and a plan has no empty lines"

@@ -112,7 +112,7 @@ class Timed:
     def closed(self, gap):
         """The text of the plan that a gap plan is in which nothing waits, and which `check` accepts. Raises as `ask` does."""
         _, path, chance, _, rest = gap.split(b"\n", 4)
-        text = b"\n".join((b"plan 2", path, chance, rest))
+        text = b"\n".join((forms.plan_line(self.sc), path, chance, rest))
         try:
             verdict = self.ask("check", accepted.joined(self.text, text))
         except Refused as why:

@@ -1,6 +1,9 @@
 """A checker of plans and gap plans of its own, written from docs/FORMATS.md and from what the bounds are, by exact whole numbers."""
 from desk import paths
 
+# From so many periods on prefixes are asked for one that stands in for them.
+EXCHANGES_FROM = 4
+
 
 def greatest(sc, position, rewards):
     """The greatest sum of rewards of a walk from a position, which has a reward by position for each period."""
@@ -34,16 +37,22 @@ def found(sc, belief, t, position):
     return sum(paths.looked(sc, belief, t, position).values())
 
 
+def rewards(sc, length, masses):
+    """What each look behind a prefix of that length finds of the masses in the period behind it, after no other look, by period and
+    position."""
+    d, g = sc.parts[1:]
+    rows = []
+    for t in range(length + 1, sc.horizon + 1):
+        scale = d ** (sc.horizon - t) * g ** (sc.horizon - length - 1)
+        rows.append([found(sc, masses, t, it) * scale for it in range(len(sc.positions))])
+        masses = spread(sc, masses, t)
+    return rows
+
+
 def mean(sc, prefix):
     """The mean bound: each later look counts as if there were no other later look."""
-    d, g = sc.parts[1:]
     total, belief = after(sc, prefix)
-    rewards = []
-    for t in range(len(prefix) + 1, sc.horizon + 1):
-        scale = d ** (sc.horizon - t) * g ** (sc.horizon - len(prefix) - 1)
-        rewards.append([found(sc, belief, t, it) * scale for it in range(len(sc.positions))])
-        belief = spread(sc, belief, t)
-    return total + greatest(sc, prefix[-1] if prefix else sc.start, rewards)
+    return total + greatest(sc, prefix[-1] if prefix else sc.start, rewards(sc, len(prefix), belief))
 
 
 def edge(sc, prefix):
@@ -101,6 +110,35 @@ def tangent(sc, prefix, path):
     return sc.parts[2] * paths.value(sc, path) + best - own
 
 
+def has_exchanges(sc, prefix):
+    """Whether a prefix is asked for one that stands in for it: there are four periods or more, it has a last position but one, and a look
+    may follow it."""
+    return sc.horizon >= EXCHANGES_FROM and 2 <= len(prefix) < sc.horizon
+
+
+def exchanged(prefix, position):
+    """A prefix with a position in place of its last but one."""
+    return [*prefix[:-2], position, prefix[-1]]
+
+
+def takes_place(sc, prefix, position):
+    """Whether a position may take the place of a prefix's last but one: it is another, and what comes of it is legal."""
+    return position != prefix[-2] and paths.is_legal(sc, exchanged(prefix, position))
+
+
+def exchange(sc, prefix, other):
+    """The exchange bound of a prefix over another one: its value, and the greatest sum of the rewards of its lead, which is how much more
+    mass there is in a cell behind it than behind the other, and 0 where there is less."""
+    total, belief = after(sc, prefix)
+    lead = [max(mass - it, 0) for mass, it in zip(belief, after(sc, other)[1])]
+    return total + greatest(sc, prefix[-1], rewards(sc, len(prefix), lead))
+
+
+def stands_in(sc, other, prefix):
+    """Whether a prefix as long as another stands in for it: with its value it cuts the other's exchange bound."""
+    return is_cut(exchange(sc, prefix, other), after(sc, other)[0], prefix, other)
+
+
 def has_one_rate(sc):
     """Whether all looks that can find miss alike."""
     looks = [sc.look(t, it) for t in range(1, sc.horizon + 1) for it in range(len(sc.positions))]
@@ -112,9 +150,28 @@ def is_cut(bound, value, prefix, path):
     return bound < value or bound == value and prefix > path[: len(prefix)]
 
 
-def right(sc, letter, prefix, path):
+def right(sc, letter, prefix, reference):
     """The bound that a record of this letter has to state."""
-    return {b"M": mean, b"E": edge}[letter](sc, prefix) if letter in (b"M", b"E") else tangent(sc, prefix, path)
+    if letter == b"X":
+        return exchange(sc, prefix, exchanged(prefix, *reference))
+    return {b"M": mean, b"E": edge}[letter](sc, prefix) if letter in (b"M", b"E") else tangent(sc, prefix, reference)
+
+
+def standing(sc, plan, letter, prefix, reference):
+    """The value and the path that have to cut the bound of a record of this letter: those of the plan, or of an exchange those of the prefix
+    with its position."""
+    if letter == b"X":
+        other = exchanged(prefix, *reference)
+        return after(sc, other)[0], other
+    return plan.value * (sc.parts[2] if letter == b"T" else 1), plan.path
+
+
+def is_reference(sc, letter, prefix, reference):
+    """Whether what a record refers to may be that: of a tangent a path that begins with the prefix, of an exchange a position that takes
+    the place of its last but one."""
+    if letter == b"T":
+        return paths.is_path(sc, reference) and reference[: len(prefix)] == prefix
+    return letter != b"X" or takes_place(sc, prefix, *reference)
 
 
 def ceiling(sc, prefix, waits_by):
@@ -125,7 +182,7 @@ def ceiling(sc, prefix, waits_by):
     return mean(sc, prefix) if waits_by == b"M" else min(edge(sc, prefix), paths.weight(sc))
 
 
-def reason(sc, plan, letter, bound, prefix, path):
+def reason(sc, plan, letter, bound, prefix, reference):
     """What is wrong with a record in itself, if anything."""
     if letter == b"O":
         return "WaitingWrong" if bound != ceiling(sc, prefix, plan.dialect.waits_by) else None
@@ -133,14 +190,16 @@ def reason(sc, plan, letter, bound, prefix, path):
         return "WholeWrong"
     if letter == b"W":
         return "NotCut" if bound > plan.value or bound == plan.value and prefix < plan.path else None
+    if letter == b"X" and not has_exchanges(sc, prefix):
+        return "WholeWrong"
     if letter == b"T" and not has_one_rate(sc):
         return "NoOneRate"
-    if letter == b"T" and not (paths.is_path(sc, path) and path[: len(prefix)] == prefix):
+    if not is_reference(sc, letter, prefix, reference):
         return "ReferenceWrong"
-    if letter != b"B" and bound != right(sc, letter, prefix, path):
+    if letter != b"B" and bound != right(sc, letter, prefix, reference):
         return "BoundWrong"
-    value = plan.value * (sc.parts[2] if letter == b"T" else 1)
-    return "NotCut" if letter != b"B" and not is_cut(bound, value, prefix, plan.path) else None
+    value, path = standing(sc, plan, letter, prefix, reference)
+    return "NotCut" if letter != b"B" and not is_cut(bound, value, prefix, path) else None
 
 
 def head_reason(sc, plan):
@@ -163,12 +222,12 @@ def first_reason(sc, plan):
     if wrong := head_reason(sc, plan):
         return wrong
     due = [[]]
-    for line, (letter, bound, prefix, path) in enumerate(plan.records, plan.dialect.line_of(0)):
+    for line, (letter, bound, prefix, reference) in enumerate(plan.records, plan.dialect.line_of(0)):
         if not due or prefix < due[-1]:
             return line, "NotChild"
         if prefix > due[-1]:
             return line, "MissingChild"
-        if wrong := reason(sc, plan, letter, bound, prefix, path):
+        if wrong := reason(sc, plan, letter, bound, prefix, reference):
             return line, wrong
         due.pop()
         if letter == b"B":

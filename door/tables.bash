@@ -28,7 +28,7 @@ commands=(
   './osp report examples/two-cells.scenario examples/two-cells.plan'
 
   'convert' 'SCENARIO PLAN'
-  'writes the accepted plan anew, as text of version 2'
+  'writes the accepted plan anew, in the version of the text that plan writes'
   './osp convert examples/two-cells.scenario examples/two-cells-1.plan'
 
   'replan [--workers N] [--nodes N] flown NAME ..' 'SCENARIO'

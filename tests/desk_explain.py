@@ -12,6 +12,7 @@ from unittest import mock
 from desk import advice, explain, faults, forms, program, quoting, rejection
 from tests import finer
 from tests.asking import Asked, module_of
+from tests.desk_exchanges import FOUR, LONGER, PLAN as WITH_EXCHANGE
 from tests.pages import EXAMPLES, STAND_IN, TOP, example, read
 
 BUILT = os.path.join(TOP, "crates", "osp", "out", "osp")
@@ -615,6 +616,31 @@ class Rejections(Asked):
         uneven = self.LONGER.replace(b"overlook a 1", b"overlook a 0")
         self.said(uneven, self.LONGER_PLAN, f"rejected {self.at(letter)} NoOneRate", "they miss 0, 1 of 2")
 
+    def test_exchanges(self):
+        """What an exchange says where it is accepted; and why it isn't."""
+        status, out = self.ran(self.write("s", FOUR), self.write("p", WITH_EXCHANGE.encode()))
+        # (By hand: 1, 3, 7, 17 and 41 prefixes by their length.)
+        size = "legal prefixes: 69, from the empty one to 41 whole paths of 4 periods\nrecords: 16, of them 6 branches, 2 whole paths, 4 mean bounds, 3 edge bounds, 1 exchange bound\n"
+        says = "an exchange bound, such as that of b b c: whatever comes behind it, by c in period 2 the same end finds at least as much\n"
+        self.assertEqual((status, out[: len("accepted\n" + size + says)]), (0, f"accepted\n{size}{says}"))
+        asks = "an exchange asks for 4 periods or more, and for a prefix of 2 positions or more: here "
+        rows = (
+            ("E 12", "X 12 1", 6, "WholeWrong", asks + "the horizon is 4 periods, and the prefix has 1 position"),
+            ("W 14", "X 14 1", 19, "WholeWrong", "an exchange bound stands at c c c b, which is a whole path"),
+            ("X 10 2", "X 10 1", 12, "ReferenceWrong", "b b c has b in period 2 itself: an exchange puts another position there"),
+            ("X 10 2", "X 10 0", 12, "ReferenceWrong", "a can't take the place of b in period 2: no move leads from a to c"),
+            ("M 14\nB", "X 14 0\nB", 17, "ReferenceWrong", "a can't take the place of c in period 2: no move leads from c to a"),
+            ("X 10 2", "X 9 2", 12, "BoundWrong", "an exchange bound of 9 is stated for the paths that begin with b b c; the right one is 10, and what is stated is less"),
+            ("X 10 2\nE 14", "X 10 2\nX 12 2", 13, "NotCut", "over c c, which finds 12 by then, the exchange bound of the paths that begin with b c is 12: one of them may find more"),
+        )
+        for old, new, line, why, told in rows:
+            with self.subTest(new=new):
+                self.said(FOUR, WITH_EXCHANGE.replace(old, new).encode(), f"rejected {line} {why}", told)
+        three = WITH_EXCHANGE.split("nodes")[0].replace("c c c c", "c c c").replace("15 16", "7 8") + "nodes 6\nB\nM 4\nB\nM 0\nM 4\nX 5 2\n"
+        self.said(LONGER, three.replace("nodes 6", "nodes 7").encode() + b"M 8\nend\n", "rejected 10 WholeWrong", asks + "the horizon is 3 periods, and the prefix has 2 positions")
+        self.said(FOUR, WITH_EXCHANGE.replace("plan 3", "plan 2").encode(), "bad plan: line 12 BadLine", "this isn't the line that is due here")
+        self.said(FOUR, WITH_EXCHANGE.replace("X 10 2", "X 10 3").encode(), "bad plan: line 12 BadNumber", "or not the number of a position")
+
     def at(self, line):
         return 1 + self.LONGER_PLAN.split(b"\n").index(line)
 
@@ -654,7 +680,7 @@ class Rejections(Asked):
         self.said(self.TWO, gap.replace(b"O 12\nend", b"O 11\nend"), "rejected 8 WaitingWrong", "line 8: O 11", "the paths that begin with b wait with the number 11", "exceeds is 12", "less: a better path")
         self.said(self.TWO, gap.replace(b"O 12\nend", b"M 11\nend"), "rejected 8 BoundWrong", "the right one is 12")
         self.said(self.TWO, gap.replace(b"nodes 3", b"nodes 5000000"), "bad plan: line 5 TooManyNodes", "more than 4,194,305 records")
-        self.said(self.TWO, gap.replace(b"gap 1", b"gap 3"), "bad plan: line 1 BadLine", "begins with `plan 1` or `plan 2`, and a gap plan with `gap 1` or `gap 2`")
+        self.said(self.TWO, gap.replace(b"gap 1", b"gap 3"), "bad plan: line 1 BadLine", "begins with `plan 1`, `plan 2` or `plan 3`, and a gap plan with `gap 1` or `gap 2`")
 
     def test_the_numbers_of_each_version(self):
         """The bound that a number has to be is named. (A second program has them by sums over all tracks: mean bounds of 71,968,800 and

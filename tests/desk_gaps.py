@@ -137,7 +137,7 @@ def read(text):
 
 
 def as_gaps(plan):
-    """The gap texts, of each version, of a plan whose text of version 2 this is."""
+    """The gap texts, of each version, of a plan whose text this is, which leaves prefixes out."""
     _, path, chance, *rest = plan.split(b"\n")
     return [b"\n".join([first, path, chance, b"ceiling " + chance.split(b" ")[1], *rest]) for first in forms.GAPS]
 
@@ -203,10 +203,10 @@ class Gaps(unittest.TestCase):
         sc = read(LONGER)
         for text in (WAITS, EDGES):
             self.assertEqual(self.fault(text, sc, forms.PLANS), (1, "BadLine"))
-        for version in (b"plan 1", b"plan 2"):
+        for version in (b"plan 1", b"plan 2", b"plan 3"):
             self.assertEqual(self.fault(WAITS.replace(b"gap 1", version), sc, forms.PLANS), (4, "BadLine"))
         plan = example("waiting-longer")[1]
-        for text in (plan, forms.in_version_1(plan, sc)):
+        for text in (plan, forms.in_version(plan, sc, b"plan 1")):
             self.assertEqual(self.fault(text, sc, forms.GAPS), (1, "BadLine"))
         waits = plan.replace(b"M 4", b"O 4")
         self.assertNotEqual(waits, plan)

@@ -10,6 +10,7 @@ import time
 import unittest
 
 from desk import limits
+from tests.desk_exchanges import FOUR, GAP as WITH_EXCHANGE, PLAN as OF_EXCHANGE
 from tests.pages import EXAMPLES, IS_BUILT, PROGRAM, TOP, example, read
 
 SCENARIO, PLAN = example("two-cells")
@@ -115,6 +116,12 @@ class Rounds(Room):
         words = ["gap --workers 4 --nodes 64", "gap --workers 4 --nodes 128", "check"]
         self.assertEqual(self.notes(), [f"{what} {it}" for it in words for what in ("begins", "ends")])
         self.leaves()
+
+    def test_a_finished_proof_with_an_exchange(self):
+        """From four periods on the plan is of version 3, which has exchanges as the gap plan has."""
+        self.write("s", FOUR)
+        self.answers(("gap 64", 0, 0, WITH_EXCHANGE.encode(), ""), ACCEPTED)
+        self.assertEqual(self.ran("--seconds", "600", f"{self.room}/s"), (0, OF_EXCHANGE.encode(), ""))
 
     def test_the_end_of_the_time(self):
         """The last whole file is there, the program is ended, and the status and a line say so."""

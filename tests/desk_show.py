@@ -351,8 +351,9 @@ class Pages(Room):
     def test_the_numbers_behind_it(self):
         told, _ = self.page("drifting-grid")
         said = told.one("section", class_="numbers").text()
-        chance, records = "22473449177088000 of 128000000000000000", example("drifting-grid")[1].split(b"\n")[3].decode().removeprefix("nodes ")
-        for part in (chance, "first distribution 1, drift 20, looks 10", "8 periods, 49 cells, 49 positions", f"version 2, {records} records:"):
+        first, _, _, nodes, *_ = example("drifting-grid")[1].decode().split("\n")
+        chance, text = "22473449177088000 of 128000000000000000", f"version {first.removeprefix('plan ')}, {nodes.removeprefix('nodes ')} records:"
+        for part in (chance, "first distribution 1, drift 20, looks 10", "8 periods, 49 cells, 49 positions", text):
             self.assertIn(part, said)
         sums = [subprocess.run(["sha256sum"], input=it, capture_output=True, check=True).stdout.decode()[:64] for it in example("drifting-grid")]
         self.assertEqual([it.text() for it in told.all("dd", class_="sum")], sums)

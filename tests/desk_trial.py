@@ -651,7 +651,7 @@ class Refusals(Refusing):
             (plan.replace(b"path r0c1 r0c2", b"path r0c1 r7c7"), 1, "it names r7c7, and the positions are its squares without land"),
             (plan.replace(b"path r0c1 r0c2", b"path base r0c2"), 1, "it names base"),
             (plan.replace(b"path r0c1 r0c2", b"path r0c1"), 1, "its path has 1 periods, and the situation 2"),
-            (plan.replace(b"plan 2", b"plan 3"), 4, "isn't a plan of this scenario: BadLine"),
+            (plan.replace(b"plan 2", b"plan 4"), 4, "isn't a plan of this scenario: BadLine"),
             (b"plan 2", 4, "isn't a plan of this scenario: EarlyEnd"),
             (b"plan 2\n", 4, "isn't a plan of this scenario: BadLine"),
             (b"", 3, "neither a plan nor a scenario with its plan behind it: line 1 EarlyEnd"),

@@ -262,7 +262,7 @@ class Answers(unittest.TestCase):
         """However few pages there are, it ends with status 7 and writes nothing, or answers as it does with enough of them."""
         row = answers.texts_of_limits()[0]
         for words, given in ((["plan", "--workers", "1"], row.given), (["check"], row.given + row.out.encode())):
-            told = [it.answer for it in web.in_node([Case(words, given, FIRST + more) for more in (0, 1, 3, 6, 10, 20, 30, 40, 44, 45, 60)])]
+            told = [it.answer for it in web.in_node([Case(words, given, FIRST + more) for more in (0, 1, 3, 6, 10, 20, 40, 60, 80, 95, 99, 120)])]
             whole = web.native([Case(words, given)])[0]
             self.assertEqual((told[0], told[-1], whole.status), (NO_MEMORY, whole, 0))
             self.assertLessEqual(set(told), {whole, NO_MEMORY})
