@@ -124,45 +124,14 @@ fn fill_pairs(
 {
     sc.recall_sound();
     let look = look_from(sc, s - 1, a);
-    fill_shares(shares, sc, prefix, onward, look.parts(), parts, s, a);
-    fill_edges(
-        edges,
-        sc,
-        prefix,
-        units,
-        rewards,
-        shares,
-        look.parts(),
-        s,
-        a,
-    );
+    let row = look.parts();
+    fill_shares(shares, sc, prefix, onward, row, parts, s, a);
+    fill_edges(edges, sc, prefix, units, rewards, shares, row, s, a);
     fill_before(
-        skips,
-        shares,
-        sc,
-        near,
-        prefix,
-        onward,
-        twos,
-        look.parts(),
-        behind,
-        s,
-        a,
+        skips, shares, sc, near, prefix, onward, twos, row, behind, s, a,
     );
     fill_sums(
-        earlier,
-        less,
-        sc,
-        prefix,
-        units,
-        pairs,
-        edges,
-        skips,
-        shares,
-        look.parts(),
-        here,
-        s,
-        a,
+        earlier, less, sc, prefix, units, pairs, edges, skips, shares, row, here, s, a,
     );
 }
 
