@@ -136,6 +136,7 @@ RECORDS = {
     b"T": ("tangent bound", "tangent bounds"),
     b"E": ("edge bound", "edge bounds"),
     b"X": ("exchange bound", "exchange bounds"),
+    b"D": ("two-look bound", "two-look bounds"),
     b"O": ("prefix that waits", "prefixes that wait"),
 }
 

@@ -314,11 +314,11 @@ LETTERS = (b"B", b"W", b"M", b"T")
 PLANS = {
     b"plan 1": Dialect(1, PLAN_HEAD, MOST_NODES, LETTERS, has_prefixes=True),
     b"plan 2": Dialect(2, PLAN_HEAD, MOST_NODES, (*LETTERS, b"E")),
-    b"plan 3": Dialect(3, PLAN_HEAD, MOST_NODES, (*LETTERS, b"E", b"X")),
+    b"plan 3": Dialect(3, PLAN_HEAD, MOST_NODES, (*LETTERS, b"E", b"X", b"D")),
 }
 GAPS = {
     b"gap 1": Dialect(1, GAP_HEAD, MOST_GAP_NODES, (*LETTERS, b"E", b"O"), waits_by=b"M"),
-    b"gap 2": Dialect(2, GAP_HEAD, MOST_GAP_NODES, (*LETTERS, b"E", b"X", b"O"), waits_by=b"E"),
+    b"gap 2": Dialect(2, GAP_HEAD, MOST_GAP_NODES, (*LETTERS, b"E", b"X", b"D", b"O"), waits_by=b"E"),
 }
 # From so many periods on plans are written in version 3, and gap plans in version 2.
 LATEST_FROM = 4
@@ -356,7 +356,8 @@ class PlanReader:
 
     # For each letter, whether a number stands before its positions, and the reference that ends them: so many horizons of positions, and
     # so many positions.
-    RECORDS = {b"B": (0, 0, 0), b"W": (1, 0, 0), b"M": (1, 0, 0), b"T": (1, 1, 0), b"E": (1, 0, 0), b"X": (1, 0, 1), b"O": (1, 0, 0)}
+    ALONE = (1, 0, 0)
+    RECORDS = {b"B": (0, 0, 0), b"W": ALONE, b"M": ALONE, b"T": (1, 1, 0), b"E": ALONE, b"X": (1, 0, 1), b"D": ALONE, b"O": ALONE}
 
     def __init__(self, sc, family=PLANS):
         self.sc, self.family = sc, family

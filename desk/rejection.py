@@ -12,9 +12,10 @@ RECORDS = {
     b"T": "a tangent bound",
     b"E": "an edge bound",
     b"X": "an exchange bound",
+    b"D": "a two-look bound",
     b"O": "a prefix that waits",
 }
-BOUNDS = {b"M": "mean", b"T": "tangent", b"E": "edge", b"X": "exchange"}
+BOUNDS = {b"M": "mean", b"T": "tangent", b"E": "edge", b"X": "exchange", b"D": "two-look"}
 # The number of a prefix that waits, by the letter of the bound by which it does.
 CEILINGS = {b"M": "their mean bound", b"E": "the lesser of their edge bound and the whole weight"}
 PLAN = "a plan isn't mended by hand: `./osp plan` makes it anew, and `./osp gap` a gap plan"

@@ -1,6 +1,10 @@
 """A checker of plans and gap plans of its own, written from docs/FORMATS.md and from what the bounds are, by exact whole numbers."""
+import functools
+
 from desk import paths
 
+# How many looks the bound of a letter remembers: the mean bound, the edge bound, and the two-look bound.
+MEMORIES = {b"M": 0, b"E": 1, b"D": 2}
 # From so many periods on prefixes are asked for one that stands in for them.
 EXCHANGES_FROM = 4
 
@@ -49,34 +53,32 @@ def rewards(sc, length, masses):
     return rows
 
 
-def mean(sc, prefix):
-    """The mean bound: each later look counts as if there were no other later look."""
-    total, belief = after(sc, prefix)
-    return total + greatest(sc, prefix[-1] if prefix else sc.start, rewards(sc, len(prefix), belief))
-
-
-def edge(sc, prefix):
-    """The edge bound: each later look counts as if the look just before it were the only other later look."""
+def remembering(sc, prefix, memory):
+    """The bound that remembers so many looks: each later look counts as if so many looks just before it, of those behind the prefix, were
+    the only other later looks."""
     d, g = sc.parts[1:]
     total, belief = after(sc, prefix)
-    masses = [belief]
-    for t in range(len(prefix) + 1, sc.horizon):
-        masses.append(spread(sc, masses[-1], t))
-    rest = [0] * len(sc.positions)
-    for t in range(sc.horizon, len(prefix) + 1, -1):
-        before, here = masses[t - len(prefix) - 2 : t - len(prefix)]
-        scale = d ** (sc.horizon - t) * g ** (sc.horizon - len(prefix) - 2)
-        rest = [max(seen(sc, before, here, t, it, to) * scale + rest[to] for to in sc.moves[it]) for it in range(len(rest))]
-    t = len(prefix) + 1
-    scale = (d * g) ** (sc.horizon - t)
-    start = prefix[-1] if prefix else sc.start
-    return total + max(found(sc, belief, t, it) * scale + rest[it] for it in sc.moves[start])
 
+    @functools.cache
+    def left(t, recent):
+        """The masses in period t behind the prefix and these looks just before, the latest first, with None for a period without a look."""
+        if t == len(prefix) + 1:
+            return belief
+        last, *others = recent or [None]
+        before = left(t - 1, tuple(others))
+        if last is None:
+            return spread(sc, before, t - 1)
+        return paths.without(sc, [it * g for it in left(t, (None, *others))], t - 1, paths.looked(sc, before, t - 1, last))
 
-def seen(sc, before, here, t, position, to):
-    """What a look from a position finds in period t, behind a look from another position in the period before."""
-    left = paths.without(sc, [it * sc.parts[2] for it in here], t - 1, paths.looked(sc, before, t - 1, position))
-    return found(sc, left, t, to)
+    @functools.cache
+    def rest(t, position, recent):
+        """The greatest sum from period t on of what each look finds, from a position and behind the looks that are remembered."""
+        if t > sc.horizon:
+            return 0
+        masses, scale = left(t, recent), d ** (sc.horizon - t) * g ** (sc.horizon - len(prefix) - len(recent) - 1)
+        return max(found(sc, masses, t, it) * scale + rest(t + 1, it, (it, *recent)[:memory]) for it in sc.moves[position])
+
+    return total + rest(len(prefix) + 1, prefix[-1] if prefix else sc.start, ())
 
 
 def factors(sc, t, position):
@@ -154,7 +156,7 @@ def right(sc, letter, prefix, reference):
     """The bound that a record of this letter has to state."""
     if letter == b"X":
         return exchange(sc, prefix, exchanged(prefix, *reference))
-    return {b"M": mean, b"E": edge}[letter](sc, prefix) if letter in (b"M", b"E") else tangent(sc, prefix, reference)
+    return remembering(sc, prefix, MEMORIES[letter]) if letter in MEMORIES else tangent(sc, prefix, reference)
 
 
 def standing(sc, plan, letter, prefix, reference):
@@ -179,7 +181,8 @@ def ceiling(sc, prefix, waits_by):
     bound, or the lesser of the edge bound and the whole weight."""
     if len(prefix) == sc.horizon:
         return paths.value(sc, prefix)
-    return mean(sc, prefix) if waits_by == b"M" else min(edge(sc, prefix), paths.weight(sc))
+    bound = remembering(sc, prefix, MEMORIES[waits_by])
+    return bound if waits_by == b"M" else min(bound, paths.weight(sc))
 
 
 def reason(sc, plan, letter, bound, prefix, reference):
