@@ -3,9 +3,9 @@
 One worker's plan follows from the rules: it closes the last prefix of its private stack, or else the first task of its own
 deque, under the best standing that it knows by then. The children of a prefix that branches and is shorter than half the horizon
 go into the deque, all but the least; all others go on the stack, the least of them on top. Where the horizon is 4 or more a
-scout flies first, and a prefix that no bound closes under the standing is closed by the best of the prefixes that stand in for it. Where
-only so many records may be made, the prefixes that are left then wait: by their mean bounds, and where the horizon is 4 or more by
-their edge bounds.
+scout flies first, and a prefix that neither its mean, its tangent nor its edge bound closes under the standing is closed by the best of
+the prefixes that stand in for it; where none does, by the bound that remembers two looks. Where only so many records may be made, the
+prefixes that are left then wait: by their mean bounds, and where the horizon is 4 or more by their edge bounds.
 """
 import collections
 
@@ -13,8 +13,9 @@ from desk import derived, paths, verdict
 from desk.forms import GAPS, gap_line, plan_line, read_scenario
 from desk.writing import scenario_text
 
-# From so many periods on a scout flies.
+# From so many periods on a scout flies, and the two-look bound is asked for.
 SCOUTED_FROM = 4
+TWO_LOOKS_FROM = 4
 # So many tasks a deque takes in its life.
 MOST_PUTS = 4096
 
@@ -38,7 +39,7 @@ def reached(sc, prefix):
     for here, later in zip(found, rest[1:]):
         path.append(min(moves(sc, path), key=lambda to: (-here[to] - later[to], to)))
     if found:
-        assert total + rest[0][prefix[-1] if prefix else sc.start] == verdict.mean(sc, prefix)
+        assert total + rest[0][prefix[-1] if prefix else sc.start] == verdict.remembering(sc, prefix, 0)
     return path
 
 
@@ -96,7 +97,7 @@ def closed(sc, prefix, standing):
     value, path = standing
     if len(prefix) == sc.horizon:
         return "W", [paths.value(sc, prefix)]
-    mean = verdict.mean(sc, prefix)
+    mean = verdict.remembering(sc, prefix, 0)
     if verdict.is_cut(mean, value, prefix, path):
         return "M", [mean]
     if verdict.has_one_rate(sc):
@@ -104,11 +105,14 @@ def closed(sc, prefix, standing):
         tangent = verdict.tangent(sc, prefix, reference)
         if verdict.is_cut(tangent, value * sc.parts[2], prefix, path):
             return "T", [tangent, *reference]
-    edge = verdict.edge(sc, prefix)
+    edge = verdict.remembering(sc, prefix, 1)
     if verdict.is_cut(edge, value, prefix, path):
         return "E", [edge]
     position = stand_in(sc, prefix) if verdict.has_exchanges(sc, prefix) else None
-    return ("B", []) if position is None else ("X", [verdict.exchange(sc, prefix, verdict.exchanged(prefix, position)), position])
+    if position is not None:
+        return "X", [verdict.exchange(sc, prefix, verdict.exchanged(prefix, position)), position]
+    two_look = verdict.remembering(sc, prefix, 2) if sc.horizon >= TWO_LOOKS_FROM else None
+    return ("D", [two_look]) if two_look is not None and verdict.is_cut(two_look, value, prefix, path) else ("B", [])
 
 
 class Worker:
