@@ -12,7 +12,7 @@ from unittest import mock
 from desk import advice, explain, faults, forms, program, quoting, rejection
 from tests import finer
 from tests.asking import Asked, module_of
-from tests.desk_exchanges import FOUR, LONGER, PLAN as WITH_EXCHANGE
+from tests.desk_exchanges import FOUR, LONGER, PLAN as WITH_EXCHANGE, REST, TWO_LOOKED
 from tests.pages import EXAMPLES, STAND_IN, TOP, example, read
 
 BUILT = os.path.join(TOP, "crates", "osp", "out", "osp")
@@ -640,6 +640,21 @@ class Rejections(Asked):
         self.said(LONGER, three.replace("nodes 6", "nodes 7").encode() + b"M 8\nend\n", "rejected 10 WholeWrong", asks + "the horizon is 3 periods, and the prefix has 2 positions")
         self.said(FOUR, WITH_EXCHANGE.replace("plan 3", "plan 2").encode(), "bad plan: line 12 BadLine", "this isn't the line that is due here")
         self.said(FOUR, WITH_EXCHANGE.replace("X 10 2", "X 10 3").encode(), "bad plan: line 12 BadNumber", "or not the number of a position")
+
+    def test_two_look_bounds(self):
+        """The same of the bound of two looks."""
+        status, out = self.ran(self.write("s", FOUR), self.write("p", TWO_LOOKED.encode()))
+        self.assertEqual((status, out.split("\n")[2]), (0, "records: 10, of them 4 branches, 2 whole paths, 1 mean bound, 2 edge bounds, 1 two-look bound"))
+        less = "a two-look bound of 13 is stated for the paths that begin with b; the right one is 14, and what is stated is less"
+        room = "the two-look bound of the paths that begin with c is 15, and the plan's path finds 15: it leaves room for a better path"
+        for old, new, line, why, told in (
+            ("W 14", "D 14", 13, "WholeWrong", "a two-look bound stands at c c c b, which is a whole path"),
+            ("D 14", "D 13", 7, "BoundWrong", less),
+            (REST, "nodes 4\nB\nE 12\nD 14\nD 15\nend\n", 8, "NotCut", room),
+        ):
+            with self.subTest(new=new):
+                self.said(FOUR, TWO_LOOKED.replace(old, new).encode(), f"rejected {line} {why}", told)
+        self.said(FOUR, TWO_LOOKED.replace("plan 3", "plan 2").encode(), "bad plan: line 7 BadLine", "this isn't the line that is due here")
 
     def at(self, line):
         return 1 + self.LONGER_PLAN.split(b"\n").index(line)

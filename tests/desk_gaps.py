@@ -174,7 +174,7 @@ class Gaps(unittest.TestCase):
 
     def test_an_edge_bound_above_the_whole_weight(self):
         sc, given = read(CERTAIN), gap("a a a, 0 8, 16", "O 16", 2)
-        self.assertEqual(verdict.edge(sc, []), 16)
+        self.assertEqual(verdict.remembering(sc, [], 1), 16)
         self.assertEqual(verdict.first_reason(sc, forms.read_plan(given, sc, forms.GAPS)), (6, "WaitingWrong"))
 
     def test_each_fault(self):
