@@ -137,9 +137,11 @@ def read(text):
 
 
 def as_gaps(plan):
-    """The gap texts, of each version, of a plan whose text this is, which leaves prefixes out."""
+    """The gap texts, of each version that has its letters, of a plan whose text this is, which leaves prefixes out."""
     _, path, chance, *rest = plan.split(b"\n")
-    return [b"\n".join([first, path, chance, b"ceiling " + chance.split(b" ")[1], *rest]) for first in forms.GAPS]
+    letters = {it[:1] for it in rest[1:-2]}
+    versions = [first for first, it in forms.GAPS.items() if letters <= set(it.letters)]
+    return [b"\n".join([first, path, chance, b"ceiling " + chance.split(b" ")[1], *rest]) for first in versions]
 
 
 class Gaps(unittest.TestCase):
