@@ -10,13 +10,14 @@ use Rattle.search_model.specs.Tracks.{value_of}
 use Rattle.search_model.specs.Bounds.{mean_of}
 use Rattle.search_model.specs.Edge.{edge_of}
 use Rattle.search_model.specs.Exchange.{exchange_of}
+use Rattle.search_model.specs.Memory.{remembering_of}
 use Rattle.search_model.specs.Order.{smaller, better, standing_of}
 use Rattle.search_model.proofs.Orders.{smaller_order, not_better_parts, not_better_from, same_from_neither, better_order, better_irreflexive, better_one_way}
 use Rattle.bound_tree.specs.declared.node.Kind.{Kind}
-use Rattle.bound_tree.specs.declared.node.Kind.TheVariants.{Branch, Whole, Mean, Tangent, Edge, Exchange}
+use Rattle.bound_tree.specs.declared.node.Kind.TheVariants.{Branch, Whole, Mean, Tangent, Edge, Exchange, TwoLooks}
 use Rattle.bound_tree.specs.Cut.{is_cut, times}
 use Rattle.bound_tree.specs.Exchanges.{HasExchanges, IsBestStandIn, HasNoStandIn, exchanged}
-use Rattle.bound_tree.specs.Close.{IsTangent, IsLeftOpen, IsClosed, IsAtLeast}
+use Rattle.bound_tree.specs.Close.{IsTangent, IsLeftOpen, IsLeftOver, IsPastTwoLooks, IsClosed, IsAtLeast}
 use Rattle.bound_tree.specs.Accepts.{IsGoodKind}
 use Rattle.bound_tree.specs.CutLaws.{CutStays, FinerCutStays, IsBoundKind, ClosedStays, MeanStays, BranchedBefore, ClosesOnce}
 use Rattle.bound_tree.proofs.Tangents.{reference_extends, one_tangent, tangent_or_none}
@@ -112,13 +113,16 @@ open_at_least p s t q sound h left = record {
       (times_at_least p.sweep.denominator s t sound.sweep.denominator.0 h) (left.tangent b whole tangent);
 }
 
+-- and so with its edge bound and those that stand in, which no standing asks
+over_at_least : (p : Problem) (s t : Standing) (q : List ℕ) → IsProblem p → IsAtLeast t s → IsLeftOver p t q → IsLeftOver p s q
+over_at_least p s t q sound h left = record { left = open_at_least p s t q sound h left.left; edge = free_at_least (edge_of p q) q s t h left.edge; alone = left.alone }
+
 -- what branches under a standing branches under each that is the same or worse
 pub branch_at_least : (p : Problem) (s t : Standing) (q : List ℕ) → IsProblem p → IsAtLeast t s → IsClosed p t q Branch → IsClosed p s q Branch
 branch_at_least p s t q sound h closed = (
   closed.0,
-  open_at_least p s t q sound h closed.1,
-  free_at_least (edge_of p q) q s t h closed.2,
-  closed.3,
+  over_at_least p s t q sound h closed.1,
+  λ asked. free_at_least (remembering_of p 2 q) q s t h (closed.2 asked),
 )
 
 pub branched_before : BranchedBefore
@@ -146,6 +150,7 @@ closed_is_good p s t q (Edge b) sound legal h whole closed = (closed.0, closed.2
 closed_is_good p s t q (Exchange b u) sound legal h whole closed =
     let stands = closed.3.stands in
     (closed.0, stands-elsewhere p q closed.0.long u stands, closed.4, subst (λ n. is_cut n q (standing_of p (exchanged u q)) ≡ true) (sym closed.4) stands.cut)
+closed_is_good p s t q (TwoLooks b) sound legal h whole closed = (closed.0, closed.2, cut_at_least b q s t h closed.3)
 
 -- a number that a standing cuts is none that it doesn't cut
 not_both : (s : Standing) (q : List ℕ) (b c : ℕ) → b ≡ c → is_cut b q s ≡ true → is_cut c q s ≡ false → ⊥
@@ -160,20 +165,25 @@ bound_goes_on p s t q sound h kind (Mean c) bound closed then = tt
 bound_goes_on p s t q sound h kind (Tangent c path) bound closed then = tt
 bound_goes_on p s t q sound h kind (Edge c) bound closed then = tt
 bound_goes_on p s t q sound h kind (Exchange c u) bound closed then = tt
+bound_goes_on p s t q sound h kind (TwoLooks c) bound closed then = tt
 bound_goes_on p s t q sound h (Mean b) Branch bound closed then =
     let before = branch_at_least p s t q sound h then in
-    absurd (not_both s q b (mean_of p q) closed.1 closed.2 before.1.mean)
+    absurd (not_both s q b (mean_of p q) closed.1 closed.2 before.1.left.mean)
 bound_goes_on p s t q sound h (Tangent b whole) Branch bound closed then =
     let before = branch_at_least p s t q sound h then in
-    absurd (true≢false (sym closed.3 ∙ before.1.tangent b whole closed.2))
+    absurd (true≢false (sym closed.3 ∙ before.1.left.tangent b whole closed.2))
 bound_goes_on p s t q sound h (Edge b) Branch bound closed then =
     let before = branch_at_least p s t q sound h then in
-    absurd (not_both s q b (edge_of p q) closed.2 closed.3 before.2)
-bound_goes_on p s t q sound h (Exchange b u) Branch bound closed then = absurd (then.3 closed.0 u closed.3.stands)
+    absurd (not_both s q b (edge_of p q) closed.2 closed.3 before.1.edge)
+bound_goes_on p s t q sound h (Exchange b u) Branch bound closed then = absurd (then.1.alone closed.0 u closed.3.stands)
+bound_goes_on p s t q sound h (TwoLooks b) Branch bound closed then =
+    let before = branch_at_least p s t q sound h then in
+    absurd (not_both s q b (remembering_of p 2 q) closed.2 closed.3 (before.2 closed.0))
 bound_goes_on p s t q sound h (Mean b) (Whole n) bound closed then = absurd (omega (arith, closed.0, then.0))
 bound_goes_on p s t q sound h (Tangent b whole) (Whole n) bound closed then = absurd (omega (arith, closed.0, then.0))
 bound_goes_on p s t q sound h (Edge b) (Whole n) bound closed then = absurd (omega (arith, closed.0, then.0))
 bound_goes_on p s t q sound h (Exchange b u) (Whole n) bound closed then = absurd (omega (arith, closed.0.short, then.0))
+bound_goes_on p s t q sound h (TwoLooks b) (Whole n) bound closed then = absurd (omega (arith, closed.0.short, then.0))
 
 -- a prefix is asked for one that stands in for it, or not
 asked_or_not : (p : Problem) (q : List ℕ) → HasExchanges p q ⊎ (¬ HasExchanges p q)
@@ -212,23 +222,26 @@ module _ (p : Problem) (s : Standing) (q : List ℕ) (sound : IsProblem p) (lega
   same_kind : (kind other : Kind) → IsClosed p s q kind → IsClosed p s q other → other ≡ kind
   same_kind Branch Branch h g = refl
   same_kind Branch (Whole n) h g = absurd (omega (arith, h.0, g.0))
-  same_kind Branch (Mean b) h g = absurd (not_both s q b (mean_of p q) g.1 g.2 h.1.mean)
-  same_kind Branch (Tangent b whole) h g = absurd (true≢false (sym g.3 ∙ h.1.tangent b whole g.2))
-  same_kind Branch (Edge b) h g = absurd (not_both s q b (edge_of p q) g.2 g.3 h.2)
-  same_kind Branch (Exchange b u) h g = absurd (h.3 g.0 u g.3.stands)
+  same_kind Branch (Mean b) h g = absurd (not_both s q b (mean_of p q) g.1 g.2 h.1.left.mean)
+  same_kind Branch (Tangent b whole) h g = absurd (true≢false (sym g.3 ∙ h.1.left.tangent b whole g.2))
+  same_kind Branch (Edge b) h g = absurd (not_both s q b (edge_of p q) g.2 g.3 h.1.edge)
+  same_kind Branch (Exchange b u) h g = absurd (h.1.alone g.0 u g.3.stands)
+  same_kind Branch (TwoLooks b) h g = absurd (not_both s q b (remembering_of p 2 q) g.2 g.3 (h.2 g.0))
   same_kind (Whole n) Branch h g = absurd (omega (arith, h.0, g.0))
   same_kind (Whole n) (Whole m) h g = ap Whole (g.1 ∙ sym h.1)
   same_kind (Whole n) (Mean b) h g = absurd (omega (arith, h.0, g.0))
   same_kind (Whole n) (Tangent b whole) h g = absurd (omega (arith, h.0, g.0))
   same_kind (Whole n) (Edge b) h g = absurd (omega (arith, h.0, g.0))
   same_kind (Whole n) (Exchange b u) h g = absurd (omega (arith, h.0, g.0.short))
-  same_kind (Mean b) Branch h g = absurd (not_both s q b (mean_of p q) h.1 h.2 g.1.mean)
+  same_kind (Whole n) (TwoLooks b) h g = absurd (omega (arith, h.0, g.0.short))
+  same_kind (Mean b) Branch h g = absurd (not_both s q b (mean_of p q) h.1 h.2 g.1.left.mean)
   same_kind (Mean b) (Whole n) h g = absurd (omega (arith, h.0, g.0))
   same_kind (Mean b) (Mean c) h g = ap Mean (g.1 ∙ sym h.1)
   same_kind (Mean b) (Tangent c whole) h g = absurd (not_both s q b (mean_of p q) h.1 h.2 g.1)
   same_kind (Mean b) (Edge c) h g = absurd (not_both s q b (mean_of p q) h.1 h.2 g.1.mean)
   same_kind (Mean b) (Exchange c u) h g = absurd (not_both s q b (mean_of p q) h.1 h.2 g.1.mean)
-  same_kind (Tangent b whole) Branch h g = absurd (true≢false (sym h.3 ∙ g.1.tangent b whole h.2))
+  same_kind (Mean b) (TwoLooks c) h g = absurd (not_both s q b (mean_of p q) h.1 h.2 g.1.left.mean)
+  same_kind (Tangent b whole) Branch h g = absurd (true≢false (sym h.3 ∙ g.1.left.tangent b whole h.2))
   same_kind (Tangent b whole) (Whole n) h g = absurd (omega (arith, h.0, g.0))
   same_kind (Tangent b whole) (Mean c) h g = absurd (not_both s q c (mean_of p q) g.1 g.2 h.1)
   same_kind (Tangent b whole) (Tangent c path) h g =
@@ -236,13 +249,15 @@ module _ (p : Problem) (s : Standing) (q : List ℕ) (sound : IsProblem p) (lega
       ap (λ (n : ℕ). Tangent n path) same.0 ∙ ap (λ (w : List ℕ). Tangent b w) same.1
   same_kind (Tangent b whole) (Edge c) h g = absurd (true≢false (sym h.3 ∙ g.1.tangent b whole h.2))
   same_kind (Tangent b whole) (Exchange c u) h g = absurd (true≢false (sym h.3 ∙ g.1.tangent b whole h.2))
-  same_kind (Edge b) Branch h g = absurd (not_both s q b (edge_of p q) h.2 h.3 g.2)
+  same_kind (Tangent b whole) (TwoLooks c) h g = absurd (true≢false (sym h.3 ∙ g.1.left.tangent b whole h.2))
+  same_kind (Edge b) Branch h g = absurd (not_both s q b (edge_of p q) h.2 h.3 g.1.edge)
   same_kind (Edge b) (Whole n) h g = absurd (omega (arith, h.0, g.0))
   same_kind (Edge b) (Mean c) h g = absurd (not_both s q c (mean_of p q) g.1 g.2 h.1.mean)
   same_kind (Edge b) (Tangent c whole) h g = absurd (true≢false (sym g.3 ∙ h.1.tangent c whole g.2))
   same_kind (Edge b) (Edge c) h g = ap Edge (g.2 ∙ sym h.2)
   same_kind (Edge b) (Exchange c u) h g = absurd (not_both s q b (edge_of p q) h.2 h.3 g.2)
-  same_kind (Exchange b u) Branch h g = absurd (g.3 h.0 u h.3.stands)
+  same_kind (Edge b) (TwoLooks c) h g = absurd (not_both s q b (edge_of p q) h.2 h.3 g.1.edge)
+  same_kind (Exchange b u) Branch h g = absurd (g.1.alone h.0 u h.3.stands)
   same_kind (Exchange b u) (Whole n) h g = absurd (omega (arith, h.0.short, g.0))
   same_kind (Exchange b u) (Mean c) h g = absurd (not_both s q c (mean_of p q) g.1 g.2 h.1.mean)
   same_kind (Exchange b u) (Tangent c whole) h g = absurd (true≢false (sym g.3 ∙ h.1.tangent c whole g.2))
@@ -250,6 +265,14 @@ module _ (p : Problem) (s : Standing) (q : List ℕ) (sound : IsProblem p) (lega
   same_kind (Exchange b u) (Exchange c v) h g =
       let place = one_best_stand_in p q u v h.3 g.3 in
       ap (λ (n : ℕ). Exchange n v) (g.4 ∙ ap (λ w. exchange_of p q (exchanged w q)) place ∙ sym h.4) ∙ ap (Exchange b) place
+  same_kind (Exchange b u) (TwoLooks c) h g = absurd (g.1.alone h.0 u h.3.stands)
+  same_kind (TwoLooks b) Branch h g = absurd (not_both s q b (remembering_of p 2 q) h.2 h.3 (g.2 h.0))
+  same_kind (TwoLooks b) (Whole n) h g = absurd (omega (arith, h.0.short, g.0))
+  same_kind (TwoLooks b) (Mean c) h g = absurd (not_both s q c (mean_of p q) g.1 g.2 h.1.left.mean)
+  same_kind (TwoLooks b) (Tangent c whole) h g = absurd (true≢false (sym g.3 ∙ h.1.left.tangent c whole g.2))
+  same_kind (TwoLooks b) (Edge c) h g = absurd (not_both s q c (edge_of p q) g.2 g.3 h.1.edge)
+  same_kind (TwoLooks b) (Exchange c u) h g = absurd (h.1.alone g.0 u g.3.stands)
+  same_kind (TwoLooks b) (TwoLooks c) h g = ap TwoLooks (g.2 ∙ sym h.2)
 
   -- what closes a prefix by a bound
   abbrev ByBound : Type 0
@@ -275,6 +298,16 @@ module _ (p : Problem) (s : Standing) (q : List ℕ) (sound : IsProblem p) (lega
     | inr free ↦ past_mean short free
   ]
 
+  -- what no bound before closes, and no exchange, is closed by the bound of two looks where it is asked for, or branches
+  last_kind : length q < p.horizon → IsLeftOver p s q → (kind : Kind) × IsClosed p s q kind
+  last_kind short left = elim (cases_lt 3 p.horizon) [
+    | inl periods ↦ elim (cases_Bool (is_cut (remembering_of p 2 q) q s)) [
+      | inl cut ↦ (TwoLooks (remembering_of p 2 q), (record { periods = omega (arith, periods); short = short }, left, refl, cut))
+      | inr free ↦ (Branch, (short, left, λ _. free))
+    ]
+    | inr few ↦ (Branch, (short, left, λ asked. absurd (omega (arith, few, asked.periods))))
+  ]
+
   -- something closes each legal prefix
   some_kind : (kind : Kind) × IsClosed p s q kind
   some_kind = elim (cases_lt (length q) p.horizon) [
@@ -283,7 +316,7 @@ module _ (p : Problem) (s : Standing) (q : List ℕ) (sound : IsProblem p) (lega
         | inl cut ↦ (Edge (edge_of p q), (short, left, refl, cut))
         | inr free ↦ elim (exchange_or_branch p q legal) [
           | inl (asked, (u, best)) ↦ (Exchange (exchange_of p q (exchanged u q)) u, (asked, left, free, best, refl))
-          | inr none ↦ (Branch, (short, left, free, none))
+          | inr none ↦ last_kind short (record { left = left; edge = free; alone = none })
         ]
       ]
       | inr (kind, bound, closed) ↦ (kind, closed)
@@ -317,6 +350,16 @@ next_bound p s t q sound legal h (Exchange b u) bound closed =
       | inl left ↦ elim (cases_Bool (is_cut (edge_of p q) q t)) [
         | inl cut ↦ (Edge (edge_of p q), tt, (closed.0.short, left, refl, cut))
         | inr free ↦ (Exchange b u, tt, (closed.0, left, free, closed.3, closed.4))
+      ]
+      | inr other ↦ other
+    ]
+next_bound p s t q sound legal h (TwoLooks b) bound closed =
+    elim (open_or_closed p t q sound legal closed.0.short) [
+      | inl left ↦ elim (cases_Bool (is_cut (edge_of p q) q t)) [
+        | inl cut ↦ (Edge (edge_of p q), tt, (closed.0.short, left, refl, cut))
+        | inr free ↦
+            let over : IsLeftOver p t q = record { left = left; edge = free; alone = closed.1.alone } in
+            (TwoLooks b, tt, (closed.0, over, closed.2, cut_at_least b q s t h closed.3))
       ]
       | inr other ↦ other
     ]

@@ -8,7 +8,7 @@ use Rattle.search_model.specs.Problem.{Problem, IsProblem}
 use Rattle.search_model.specs.Tracks.{value_of}
 use Rattle.search_model.specs.Order.{smaller, better, standing_of, IsBest}
 use Rattle.search_model.proofs.Orders.{not_better_parts, not_better_from, smaller_one_way}
-use Rattle.bound_tree.specs.declared.node.Kind.TheVariants.{Branch, Whole, Mean, Tangent, Edge, Exchange}
+use Rattle.bound_tree.specs.declared.node.Kind.TheVariants.{Branch, Whole, Mean, Tangent, Edge, Exchange, TwoLooks}
 use Rattle.bound_tree.specs.declared.gap.Numbers.{Numbers}
 use Rattle.bound_tree.specs.declared.gap.Numbers.TheVariants.{Means, Edges}
 use Rattle.bound_tree.specs.declared.gap.GapKind.{GapKind}
@@ -23,7 +23,7 @@ use Rattle.bound_tree.specs.GapLaws.{PrefixCeilingIsAbove}
 use Rattle.bound_tree.proofs.Continuing.{front_legal, front_short, whole_front}
 use Rattle.bound_tree.proofs.MeanBound.{mean_is_above}
 use Rattle.bound_tree.proofs.TangentBound.{tangent_is_above}
-use Rattle.bound_tree.proofs.Remembered.{edge_is_above}
+use Rattle.bound_tree.proofs.Remembered.{remembering_is_above, edge_is_above}
 use Rattle.bound_tree.proofs.Exchange.{exchange_rules_out}
 use Rattle.bound_tree.proofs.StandIns.{exchanged-stands}
 use Rattle.bound_tree.proofs.Closing.{smaller_by_fronts}
@@ -98,6 +98,9 @@ module _ (numbers : Numbers) (p : Problem) (sound : IsProblem p) (s : Standing) 
       let most : value_of p y ≤ b = rw good.1 (edge_is_above p q y sound (front_legal p q y x) good.0 x) in
       ends (below_cut b (value_of p y) q y s x.front most good.2)
   goes_on E q (Closed (Exchange b u)) good ends below = λ x. absurd (exchange_rules_out p q (exchanged u q) y sound good.0.short (good_stands p s q b u good) best x)
+  goes_on E q (Closed (TwoLooks b)) good ends below = λ x.
+      let most : value_of p y ≤ b = rw good.1 (remembering_is_above p 2 q y sound x) in
+      ends (below_cut b (value_of p y) q y s x.front most good.2)
   goes_on E q (Waiting n) good ends below = λ x. ends (omega (arith, good, prefix_ceiling_is_above numbers p q y sound x))
 
   -- the best path ends at one of these nodes, which says this of it

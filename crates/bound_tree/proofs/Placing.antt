@@ -7,7 +7,7 @@ use Rattle.search_model.specs.declared.standing.Standing.{Standing}
 use Rattle.search_model.specs.Problem.{Problem}
 use Rattle.search_model.specs.Legal.{IsLegal}
 use Rattle.bound_tree.specs.declared.node.Kind.{Kind}
-use Rattle.bound_tree.specs.declared.node.Kind.TheVariants.{Branch, Whole, Mean, Tangent, Edge, Exchange}
+use Rattle.bound_tree.specs.declared.node.Kind.TheVariants.{Branch, Whole, Mean, Tangent, Edge, Exchange, TwoLooks}
 use Rattle.bound_tree.specs.declared.node.TreeNode.{TreeNode}
 use Rattle.bound_tree.specs.Accepts.{IsGoodKind, IsGood, expected_by, AreEaten}
 use Rattle.bound_tree.specs.Places.{opened_by, AreInPlace, EatenIsPlacedAndGood, EatenAreInPlace}
@@ -26,6 +26,7 @@ opened_by_good p s q (Mean b) good = nothing_either_way (nat_lt (length q) p.hor
 opened_by_good p s q (Tangent b whole) good = nothing_either_way (nat_lt (length q) p.horizon)
 opened_by_good p s q (Edge b) good = nothing_either_way (nat_lt (length q) p.horizon)
 opened_by_good p s q (Exchange b u) good = nothing_either_way (nat_lt (length q) p.horizon)
+opened_by_good p s q (TwoLooks b) good = nothing_either_way (nat_lt (length q) p.horizon)
 
 -- records that are eaten are in place
 in_place : (p : Problem) (s : Standing) (rs : List TreeNode) (qs : List (List ℕ)) → AreEaten p s qs rs → AreInPlace p qs rs

@@ -5,7 +5,7 @@ use Rattle.std.proofs.lemmas.List.Elements.{All-head, All-tail, All-nil, All-map
 use Rattle.search_model.specs.Problem.{Problem, IsProblem}
 use Rattle.search_model.specs.Legal.{IsLegal, moves_after}
 use Rattle.bound_tree.specs.declared.node.Kind.{Kind}
-use Rattle.bound_tree.specs.declared.node.Kind.TheVariants.{Branch, Whole, Mean, Tangent, Edge, Exchange}
+use Rattle.bound_tree.specs.declared.node.Kind.TheVariants.{Branch, Whole, Mean, Tangent, Edge, Exchange, TwoLooks}
 use Rattle.bound_tree.specs.Accepts.{expected_by}
 use Rattle.bound_tree.specs.Room.{HasRoom}
 use Rattle.search_model.proofs.Children.{few_moves, child_is_legal}
@@ -20,6 +20,7 @@ legal_expected p q (Mean b) legal short = All-nil (IsLegal p)
 legal_expected p q (Tangent b whole) legal short = All-nil (IsLegal p)
 legal_expected p q (Edge b) legal short = All-nil (IsLegal p)
 legal_expected p q (Exchange b u) legal short = All-nil (IsLegal p)
+legal_expected p q (TwoLooks b) legal short = All-nil (IsLegal p)
 
 -- where at most 63 prefixes for each position of q are expected behind it, up to 64 children of q have room before them
 HasRoom-children : (q : List ℕ) (ms : List ℕ) (qs : List (List ℕ)) → length ms ≤ 64 → length qs ≤ 63 * length q → HasRoom qs → HasRoom (map (λ d. q ++ d ∷ []) ms ++ qs)
@@ -53,3 +54,4 @@ room_expected p q (Mean b) qs sound legal room = room.1
 room_expected p q (Tangent b whole) qs sound legal room = room.1
 room_expected p q (Edge b) qs sound legal room = room.1
 room_expected p q (Exchange b u) qs sound legal room = room.1
+room_expected p q (TwoLooks b) qs sound legal room = room.1

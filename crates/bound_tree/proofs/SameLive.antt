@@ -10,12 +10,13 @@ use Rattle.search_model.proofs.WalkLemmas.{front_is_legal}
 use Rattle.search_model.proofs.SameSearch.{AreSame-sym, legal_same, rate_same, value_same_legal, mean_same, edge_same, tangent_same, reference_same}
 use Rattle.search_model.proofs.SameExchanges.{exchange_same}
 use Rattle.bound_tree.specs.declared.node.Kind.{Kind}
-use Rattle.bound_tree.specs.declared.node.Kind.TheVariants.{Branch, Whole, Mean, Tangent, Edge, Exchange}
+use Rattle.bound_tree.specs.declared.node.Kind.TheVariants.{Branch, Whole, Mean, Tangent, Edge, Exchange, TwoLooks}
 use Rattle.bound_tree.specs.Cut.{is_cut, times}
 use Rattle.bound_tree.specs.Exchanges.{exchanged}
-use Rattle.bound_tree.specs.Close.{IsTangent, IsLeftOpen, IsClosed, IsLive}
+use Rattle.bound_tree.specs.Close.{IsTangent, IsLeftOpen, IsLeftOver, IsPastTwoLooks, IsClosed, IsLive}
 use Rattle.bound_tree.specs.SameLaws.{SameCloses, SameLive, SameHasMoreLive}
 use Rattle.bound_tree.proofs.Tangents.{reference_extends}
+use Rattle.bound_tree.proofs.SameMemory.{two_asked_same, remembering_same}
 use Rattle.bound_tree.proofs.SameStandIns.{asked_same, best_stand_in_same, no_stand_in_same}
 
 module _ (p o : Problem) (same : AreSame p o) (sound : IsProblem p) (q : List ℕ) (legal : IsLegal p q) where
@@ -52,8 +53,16 @@ module _ (p o : Problem) (same : AreSame p o) (sound : IsProblem p) (q : List �
   edge_open_same : (s : Standing) → IsFalse (is_cut (edge_of p q) q s) → IsFalse (is_cut (edge_of o q) q s)
   edge_open_same s free = subst (λ (b : ℕ). IsFalse (is_cut b q s)) (edge_same p o same sound q legal) free
 
+  -- nor does another prefix stand in
+  left_over_same : (s : Standing) → IsLeftOver p s q → IsLeftOver o s q
+  left_over_same s left = record { left = left_open_same s left.left; edge = edge_open_same s left.edge; alone = no_stand_in_same p o same sound q legal left.alone }
+
+  -- nor its bound of two looks
+  past_same : (s : Standing) → IsPastTwoLooks p s q → IsPastTwoLooks o s q
+  past_same s past asked = subst (λ (b : ℕ). IsFalse (is_cut b q s)) (remembering_same p o same sound 2 q legal) (past (two_asked_same o p (AreSame-sym p o same) q asked))
+
   closed_there : (s : Standing) (kind : Kind) → IsClosed p s q kind → IsClosed o s q kind
-  closed_there s Branch closed = (rw (← same.horizon) closed.0, left_open_same s closed.1, edge_open_same s closed.2, no_stand_in_same p o same sound q legal closed.3)
+  closed_there s Branch closed = (rw (← same.horizon) closed.0, left_over_same s closed.1, past_same s closed.2)
   closed_there s (Whole n) closed = (closed.0 ∙ same.horizon, closed.1 ∙ value_same_legal p o same sound q legal)
   closed_there s (Mean b) closed = (rw (← same.horizon) closed.0, closed.1 ∙ mean_same p o same sound q legal, closed.2)
   closed_there s (Tangent b whole) closed = (
@@ -71,6 +80,8 @@ module _ (p o : Problem) (same : AreSame p o) (sound : IsProblem p) (q : List �
         best_stand_in_same p o same sound q legal closed.0.short u closed.3,
         closed.4 ∙ exchange_same p o same sound q (exchanged u q) legal stands.legal closed.0.short stands.long,
       )
+  closed_there s (TwoLooks b) closed =
+      (two_asked_same p o same q closed.0, left_over_same s closed.1, closed.2 ∙ remembering_same p o same sound 2 q legal, closed.3)
 
 pub closed_same : SameCloses
 closed_same p o s q kind sound same legal closed = closed_there p o same sound q legal s kind closed

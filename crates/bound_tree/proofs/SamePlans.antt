@@ -6,7 +6,7 @@ use Rattle.search_model.specs.Problem.{Problem, IsProblem}
 use Rattle.search_model.specs.Same.{AreSame}
 use Rattle.search_model.specs.Legal.{IsLegal}
 use Rattle.bound_tree.specs.declared.node.Kind.{Kind}
-use Rattle.bound_tree.specs.declared.node.Kind.TheVariants.{Branch, Whole, Mean, Tangent, Edge, Exchange}
+use Rattle.bound_tree.specs.declared.node.Kind.TheVariants.{Branch, Whole, Mean, Tangent, Edge, Exchange, TwoLooks}
 use Rattle.bound_tree.specs.declared.node.TreeNode.{TreeNode}
 use Rattle.bound_tree.specs.Exchanges.{exchanged}
 use Rattle.bound_tree.specs.Accepts.{IsGoodKind, expected_by, AreEaten}
@@ -17,6 +17,7 @@ use Rattle.bound_tree.specs.Places.{opened_by, AreInPlace}
 use Rattle.bound_tree.specs.SameLaws.{SameIsAlike, SameAccepts}
 use Rattle.search_model.proofs.SameSearch.{AreSame-sym, legal_same, best_same, path_same, whole_same, rate_same, value_same_legal, mean_same, edge_same, reference_same, tangent_same, opening_same, path_legal}
 use Rattle.search_model.proofs.SameExchanges.{exchange_same}
+use Rattle.bound_tree.proofs.SameMemory.{two_asked_same, remembering_same}
 
 module _ (p o : Problem) (same : AreSame p o) where
   -- a record makes the same prefixes expected
@@ -27,6 +28,7 @@ module _ (p o : Problem) (same : AreSame p o) where
   expected_same q (Tangent b whole) = refl
   expected_same q (Edge b) = refl
   expected_same q (Exchange b u) = refl
+  expected_same q (TwoLooks b) = refl
 
   -- the same records are in place
   pub in_place_same : (qs : List (List ℕ)) (rs : List TreeNode) → AreInPlace p qs rs → AreInPlace o qs rs
@@ -57,6 +59,7 @@ module _ (p o : Problem) (same : AreSame p o) (sound : IsProblem p) (s : Standin
         good.2 ∙ exchange_same p o same sound q (exchanged u q) legal there good.0.short (exchanged-long p q good.0.long u),
         rw (← value_same_legal p o same sound (exchanged u q) there) good.3,
       )
+  good_same q (TwoLooks b) legal good = (two_asked_same p o same q good.0, good.1 ∙ remembering_same p o same sound 2 q legal, good.2)
 
   -- the same records are eaten
   eaten_same : (qs : List (List ℕ)) (rs : List TreeNode) → All (IsLegal p) qs → AreEaten p s qs rs → AreEaten o s qs rs
@@ -90,6 +93,7 @@ same_is_alike p o sound same =
       values = value_same_legal p o same sound;
       means = mean_same p o same sound;
       edges = edge_same p o same sound;
+      remembering = remembering_same p o same sound;
       exchanges = exchange_same p o same sound;
       rates = λ rate. (rate_same p o same rate, rate_same o p back rate);
       references = reference_same p o same sound;

@@ -8,11 +8,13 @@ use Rattle.search_model.specs.Order.{standing_of, better}
 use Rattle.search_model.specs.Bounds.{mean_of, IsRate, tangent_of}
 use Rattle.search_model.specs.Edge.{edge_of}
 use Rattle.search_model.specs.Exchange.{exchange_of}
+use Rattle.search_model.specs.Memory.{remembering_of}
 use Rattle.bound_tree.specs.declared.node.Kind.{Kind}
-use Rattle.bound_tree.specs.declared.node.Kind.TheVariants.{Branch, Whole, Mean, Tangent, Edge, Exchange}
+use Rattle.bound_tree.specs.declared.node.Kind.TheVariants.{Branch, Whole, Mean, Tangent, Edge, Exchange, TwoLooks}
 use Rattle.bound_tree.specs.declared.node.TreeNode.{TreeNode}
 use Rattle.bound_tree.specs.declared.plan.Plan.{Plan}
 use Rattle.bound_tree.specs.Cut.{is_cut, times}
+use Rattle.bound_tree.specs.Asked.{HasTwoLooks}
 use Rattle.bound_tree.specs.Exchanges.{HasExchanges, TakesPlace, exchanged}
 
 -- a path begins with the prefix
@@ -30,6 +32,7 @@ IsGoodKind p s q (Tangent b whole) =
 IsGoodKind p s q (Edge b) = (length q < p.horizon) × (b ≡ edge_of p q) × IsTrue (is_cut b q s)
 IsGoodKind p s q (Exchange b u) =
     HasExchanges p q × TakesPlace p q u × (b ≡ exchange_of p q (exchanged u q)) × IsTrue (is_cut b q (standing_of p (exchanged u q)))
+IsGoodKind p s q (TwoLooks b) = HasTwoLooks p q × (b ≡ remembering_of p 2 q) × IsTrue (is_cut b q s)
 
 abbrev pub IsGood : Problem → Standing → TreeNode → Type 0
 IsGood p s r = IsGoodKind p s r.prefix r.kind
@@ -54,6 +57,7 @@ expected_by p q (Mean b) = []
 expected_by p q (Tangent b whole) = []
 expected_by p q (Edge b) = []
 expected_by p q (Exchange b u) = []
+expected_by p q (TwoLooks b) = []
 
 -- the records are the trees of the expected prefixes, one after the other
 abbrev pub AreEaten : Problem → Standing → List (List ℕ) → List TreeNode → Type 0

@@ -5,7 +5,7 @@ use Rattle.search_model.specs.Problem.{Problem, IsProblem}
 use Rattle.search_model.specs.Legal.{IsLegal}
 use Rattle.search_model.specs.Order.{better}
 use Rattle.bound_tree.specs.declared.node.Kind.{Kind}
-use Rattle.bound_tree.specs.declared.node.Kind.TheVariants.{Branch, Whole, Mean, Tangent, Edge, Exchange}
+use Rattle.bound_tree.specs.declared.node.Kind.TheVariants.{Branch, Whole, Mean, Tangent, Edge, Exchange, TwoLooks}
 use Rattle.bound_tree.specs.Cut.{is_cut, times}
 use Rattle.bound_tree.specs.Close.{IsClosed, IsAtLeast}
 use Rattle.bound_tree.specs.Accepts.{IsGoodKind}
@@ -22,7 +22,7 @@ FinerCutStays = (g b : ℕ) (q : List ℕ) (s t : Standing) → 1 ≤ g → IsAt
 abbrev pub UncutAbove : Type 0
 UncutAbove = (b c : ℕ) (q : List ℕ) (s : Standing) → b ≤ c → IsFalse (is_cut b q s) → IsFalse (is_cut c q s)
 
--- a mean, a tangent, an edge or an exchange
+-- a mean, a tangent, an edge, an exchange, or a bound that remembers two looks
 abbrev pub IsBoundKind : Kind → Type 0
 IsBoundKind Branch = ⊥
 IsBoundKind (Whole n) = ⊥
@@ -30,6 +30,7 @@ IsBoundKind (Mean b) = Unit {0}
 IsBoundKind (Tangent b whole) = Unit {0}
 IsBoundKind (Edge b) = Unit {0}
 IsBoundKind (Exchange b u) = Unit {0}
+IsBoundKind (TwoLooks b) = Unit {0}
 
 -- what is closed by a bound under a standing is closed by a bound under every better one, and in no other way there
 abbrev pub ClosedStays : Type 0

@@ -1,5 +1,6 @@
 pub mod Cut
 pub mod Exchanges
+pub mod Asked
 pub mod Close
 pub mod Accepts
 pub mod Eat

@@ -9,6 +9,7 @@ use Rattle.search_model.specs.Order.{IsBest}
 use Rattle.search_model.specs.Bounds.{mean_of, IsRate, tangent_of}
 use Rattle.search_model.specs.Edge.{edge_of}
 use Rattle.search_model.specs.Exchange.{exchange_of}
+use Rattle.search_model.specs.Memory.{remembering_of}
 use Rattle.search_model.specs.Reference.{IsReference}
 use Rattle.search_model.specs.Opening.{IsOpening}
 use Rattle.bound_tree.specs.declared.node.Kind.{Kind}
@@ -25,6 +26,7 @@ pub record AreAlike (p o : Problem) : Type 0 where
   pub values : (q : List ℕ) → IsLegal p q → value_of p q ≡ value_of o q
   pub means : (q : List ℕ) → IsLegal p q → mean_of p q ≡ mean_of o q
   pub edges : (q : List ℕ) → IsLegal p q → edge_of p q ≡ edge_of o q
+  pub remembering : (m : ℕ) (q : List ℕ) → IsLegal p q → remembering_of p m q ≡ remembering_of o m q
   pub exchanges : (q r : List ℕ) → IsLegal p q → IsLegal p r → length q < p.horizon → length r ≡ length q → exchange_of p q r ≡ exchange_of o q r
   pub rates : (rate : ℕ) → IsRate p rate ↔ IsRate o rate
   pub references : (q whole : List ℕ) → IsLegal p q → IsReference p q whole ↔ IsReference o q whole

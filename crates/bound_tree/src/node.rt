@@ -19,6 +19,9 @@ pub enum Kind {
     /// The prefix's exchange bound over itself with this position in place of its last but one, which stands in for it:
     /// whatever follows both, the other makes the better path.
     Exchange(u128, u8),
+    /// The greatest value below the prefix, by the bound that remembers two looks: the mean bound with each look discounted by the
+    /// two looks just before it.
+    TwoLooks(u128),
 }
 
 /// A record: a prefix and how it was closed.

@@ -65,7 +65,11 @@ pub fn push_expected(stack: &mut Vec<Path>, sc: &Scenario, prefix: &Path, kind: 
         Kind::Branch => {
             push_children(stack, prefix, sc.moves_after(prefix));
         }
-        Kind::Whole(_) | Kind::Mean(_) | Kind::Tangent(..) | Kind::Edge(_) | Kind::Exchange(..) =>
-            {}
+        Kind::Whole(_)
+        | Kind::Mean(_)
+        | Kind::Tangent(..)
+        | Kind::Edge(_)
+        | Kind::Exchange(..)
+        | Kind::TwoLooks(_) => {}
     }
 }

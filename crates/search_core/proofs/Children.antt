@@ -11,7 +11,7 @@ use Rattle.search_model.specs.Problem.{Problem, IsProblem}
 use Rattle.search_model.specs.Legal.{last_of, moves_after}
 use Rattle.list_laws.proofs.Members.{Contains-nil, Contains-map_cases}
 use Rattle.bound_tree.specs.declared.node.Kind.{Kind}
-use Rattle.bound_tree.specs.declared.node.Kind.TheVariants.{Branch, Whole, Mean, Tangent, Edge, Exchange}
+use Rattle.bound_tree.specs.declared.node.Kind.TheVariants.{Branch, Whole, Mean, Tangent, Edge, Exchange, TwoLooks}
 use Rattle.bound_tree.specs.declared.node.TreeNode.{TreeNode}
 use Rattle.bound_tree.specs.Accepts.{prefixes_of}
 use Rattle.bound_tree.specs.Accepts.{expected_by}
@@ -53,6 +53,7 @@ branch_or_leaf (Mean b) = inr (λ p q. refl)
 branch_or_leaf (Tangent b whole) = inr (λ p q. refl)
 branch_or_leaf (Edge b) = inr (λ p q. refl)
 branch_or_leaf (Exchange b u) = inr (λ p q. refl)
+branch_or_leaf (TwoLooks b) = inr (λ p q. refl)
 
 -- only a branch makes prefixes expected, its children
 pub expected_cases : (p : Problem) (q : List ℕ) (kind : Kind) (r : List ℕ) → Contains (expected_by p q kind) r →

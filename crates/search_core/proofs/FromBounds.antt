@@ -7,14 +7,15 @@ use Rattle.search_model.specs.Legal.{IsLegal, IsPath}
 use Rattle.search_model.specs.Tracks.{value_of}
 use Rattle.search_model.specs.Bounds.{mean_of}
 use Rattle.search_model.specs.Edge.{edge_of}
+use Rattle.search_model.specs.Memory.{remembering_of}
 use Rattle.bound_tree.specs.declared.node.Kind.{Kind}
-use Rattle.bound_tree.specs.declared.node.Kind.TheVariants.{Branch, Whole, Mean, Tangent, Edge, Exchange}
+use Rattle.bound_tree.specs.declared.node.Kind.TheVariants.{Branch, Whole, Mean, Tangent, Edge, Exchange, TwoLooks}
 use Rattle.bound_tree.specs.Accepts.{IsGoodKind, Extends}
 use Rattle.bound_tree.specs.Close.{IsTangent, IsLeftOpen, IsClosed, IsExact, IsAtLeast}
 use Rattle.bound_tree.specs.Cut.{is_cut, times}
 use Rattle.bound_tree.proofs.MeanBound.{mean_is_above}
 use Rattle.bound_tree.proofs.TangentBound.{tangent_is_above}
-use Rattle.bound_tree.proofs.Remembered.{edge_is_above}
+use Rattle.bound_tree.proofs.Remembered.{remembering_is_above, edge_is_above}
 use Rattle.bound_tree.proofs.Tangents.{reference_extends}
 use Rattle.bound_tree.proofs.Closing.{not_worse, at_least_itself, at_least_from, at_least_trans, cut_at_least, finer_cut_stays, branch_at_least, closed_is_good}
 
@@ -35,6 +36,7 @@ good_at_least p s t q (Tangent b whole) sound least good =
     (good.0, good.1, finer_cut_stays p.sweep.denominator b q s t sound.sweep.denominator.0 least good.2)
 good_at_least p s t q (Edge b) sound least good = (good.0, good.1, cut_at_least b q s t least good.2)
 good_at_least p s t q (Exchange b u) sound least good = good
+good_at_least p s t q (TwoLooks b) sound least good = (good.0, good.1, cut_at_least b q s t least good.2)
 
 -- what branches is shorter than the horizon
 pub short_from_branch : (p : Problem) (s : Standing) (q : List ℕ) → IsProblem p → IsLegal p q → IsClosed p s q Branch → length q < p.horizon
@@ -62,7 +64,11 @@ empty_branches p s sound exact =
       mean = enough_is_open (mean_of p []) s mean;
       tangent = λ b whole tangent. enough_is_open b (times p.sweep.denominator s) (finer b whole tangent);
     } in
-    (some, left, enough_is_open (edge_of p []) s edge, λ has. absurd (omega (arith, has.long)))
+    let two : s.value ≤ remembering_of p 2 [] = rw exact.value (remembering_is_above p 2 [] s.path sound path) in (
+      some,
+      record { left = left; edge = enough_is_open (edge_of p []) s edge; alone = λ has. absurd (omega (arith, has.long)) },
+      λ asked. enough_is_open (remembering_of p 2 []) s two,
+    )
 
 -- a path is closed by its value under every standing
 pub path_is_whole : (p : Problem) (s : Standing) (q : List ℕ) (n : ℕ) → IsPath p q → n ≡ value_of p q → IsClosed p s q (Whole n)

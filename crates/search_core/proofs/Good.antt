@@ -9,7 +9,7 @@ use Rattle.search_model.specs.Legal.{IsLegal}
 use Rattle.search_model.specs.Order.{better}
 use Rattle.list_laws.proofs.Members.{Contains-head, Contains-tail, Contains-nil, Contains-map, Contains-cons_cases, Contains-flat_map, Contains-flat_map_cases}
 use Rattle.bound_tree.specs.declared.node.Kind.{Kind}
-use Rattle.bound_tree.specs.declared.node.Kind.TheVariants.{Branch, Whole, Mean, Tangent, Edge, Exchange}
+use Rattle.bound_tree.specs.declared.node.Kind.TheVariants.{Branch, Whole, Mean, Tangent, Edge, Exchange, TwoLooks}
 use Rattle.bound_tree.specs.declared.node.TreeNode.{TreeNode}
 use Rattle.bound_tree.specs.Accepts.{prefixes_of}
 use Rattle.bound_tree.specs.Accepts.{IsGood, IsGoodKind}
@@ -59,6 +59,7 @@ exact_whole p t s q (Mean b) legal good h = absurd (Contains-nil s h)
 exact_whole p t s q (Tangent b whole) legal good h = absurd (Contains-nil s h)
 exact_whole p t s q (Edge b) legal good h = absurd (Contains-nil s h)
 exact_whole p t s q (Exchange b u) legal good h = absurd (Contains-nil s h)
+exact_whole p t s q (TwoLooks b) legal good h = absurd (Contains-nil s h)
 
 -- the champion is exact
 pub exact_champion : (p : Problem) (c : Core) (t : Standing) → IsProblem p → IsBalanced p c → IsChampion c t → IsExact p t

@@ -3,7 +3,7 @@ use Rattle.std.specs.Prelude.{ℕ, List, [], ◌∷◌, ◌++◌, All, Contains}
 use Rattle.std.specs.List.{flat_map}
 use Rattle.search_model.specs.declared.standing.Standing.{Standing}
 use Rattle.bound_tree.specs.declared.node.Kind.{Kind}
-use Rattle.bound_tree.specs.declared.node.Kind.TheVariants.{Branch, Whole, Mean, Tangent, Edge, Exchange}
+use Rattle.bound_tree.specs.declared.node.Kind.TheVariants.{Branch, Whole, Mean, Tangent, Edge, Exchange, TwoLooks}
 use Rattle.bound_tree.specs.Close.{IsAtLeast}
 use Rattle.search_core.specs.Balance.{Core}
 
@@ -15,6 +15,7 @@ whole_of q (Mean b) = []
 whole_of q (Tangent b whole) = []
 whole_of q (Edge b) = []
 whole_of q (Exchange b u) = []
+whole_of q (TwoLooks b) = []
 
 -- the standings, and those that the Whole records give
 abbrev pub known_in : Core → List Standing

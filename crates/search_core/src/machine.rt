@@ -62,8 +62,12 @@ fn moves_below<'a>(sc: &'a Scenario, node: &TreeNode) -> &'a [u8]
 {
     match node.kind {
         Kind::Branch => sc.moves_after(&node.prefix),
-        Kind::Whole(_) | Kind::Mean(_) | Kind::Tangent(..) | Kind::Edge(_) | Kind::Exchange(..) =>
-            &[],
+        Kind::Whole(_)
+        | Kind::Mean(_)
+        | Kind::Tangent(..)
+        | Kind::Edge(_)
+        | Kind::Exchange(..)
+        | Kind::TwoLooks(_) => &[],
     }
 }
 

@@ -9,7 +9,7 @@ use Rattle.search_model.specs.Order.{better}
 use Rattle.search_model.proofs.Orders.{better_irreflexive}
 use Rattle.search_model.proofs.Totals.{whole_weight-fits}
 use Rattle.bound_tree.specs.declared.node.Kind.{Kind}
-use Rattle.bound_tree.specs.declared.node.Kind.TheVariants.{Branch, Whole, Mean, Tangent, Edge, Exchange}
+use Rattle.bound_tree.specs.declared.node.Kind.TheVariants.{Branch, Whole, Mean, Tangent, Edge, Exchange, TwoLooks}
 use Rattle.bound_tree.specs.Close.{IsClosed, IsExact, IsAtLeast}
 use Rattle.incumbent_board.specs.History.{MayStand}
 use Rattle.search_workers.specs.Incumbents.{best_after}
@@ -34,6 +34,7 @@ after_is_up s q (Mean b) = inl refl
 after_is_up s q (Tangent b whole) = inl refl
 after_is_up s q (Edge b) = inl refl
 after_is_up s q (Exchange b u) = inl refl
+after_is_up s q (TwoLooks b) = inl refl
 
 -- a path doesn't beat it
 whole_unbeaten : (s : Standing) (q : List ℕ) (n : ℕ) → better (record { path = q; value = n }) (best_after s q (Whole n)) ≡ false
@@ -56,3 +57,4 @@ after_is_exact p s q (Mean b) exact legal closed = exact
 after_is_exact p s q (Tangent b whole) exact legal closed = exact
 after_is_exact p s q (Edge b) exact legal closed = exact
 after_is_exact p s q (Exchange b u) exact legal closed = exact
+after_is_exact p s q (TwoLooks b) exact legal closed = exact

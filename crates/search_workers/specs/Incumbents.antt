@@ -4,7 +4,7 @@ use mathlib.Core.List.{IsPrefix}
 use Rattle.search_model.specs.declared.standing.Standing.{Standing}
 use Rattle.search_model.specs.Order.{better}
 use Rattle.bound_tree.specs.declared.node.Kind.{Kind}
-use Rattle.bound_tree.specs.declared.node.Kind.TheVariants.{Branch, Whole, Mean, Tangent, Edge, Exchange}
+use Rattle.bound_tree.specs.declared.node.Kind.TheVariants.{Branch, Whole, Mean, Tangent, Edge, Exchange, TwoLooks}
 use Rattle.incumbent_board.specs.History.{IsHistory, last_of}
 use Rattle.incumbent_board.specs.Boards.{SeatView, IsSameSeat, offers_of}
 
@@ -16,6 +16,7 @@ best_after s q (Mean b) = s
 best_after s q (Tangent b whole) = s
 best_after s q (Edge b) = s
 best_after s q (Exchange b u) = s
+best_after s q (TwoLooks b) = s
 
 -- a seat was told of a standing: it has seen it on the board, or offered it
 pub record WasTold (seat : SeatView) (s : Standing) : Type 0 where
