@@ -25,6 +25,7 @@ fn told(kind: &Kind) -> Told {
         Kind::Tangent(bound, reference) => ('T', *bound, *reference),
         Kind::Edge(bound) => ('E', *bound, Path::empty()),
         Kind::Exchange(bound, u) => ('X', *bound, alone(*u)),
+        Kind::TwoLooks(bound) => ('D', *bound, Path::empty()),
     }
 }
 

@@ -73,6 +73,7 @@ pub(crate) fn kind_of(letter: &str, number: u128, reference: Path) -> Option<Kin
         "T" => Some(Kind::Tangent(number, reference)),
         "E" => Some(Kind::Edge(number)),
         "X" => Some(Kind::Exchange(number, *reference.cells().first()?)),
+        "D" => Some(Kind::TwoLooks(number)),
         _ => None,
     }
 }

@@ -12,9 +12,10 @@ use Rattle.search_model.specs.Order.{smaller}
 use Rattle.search_model.specs.Bounds.{greatest, mean_of, IsRate, tangent_of}
 use Rattle.search_model.specs.Edge.{edge_of}
 use Rattle.search_model.specs.Exchange.{exchange_of}
+use Rattle.search_model.specs.Memory.{remembering_of}
 use Rattle.search_model.proofs.Orders.{smaller_irreflexive, same_from_neither}
 use Rattle.bound_tree.specs.declared.node.Kind.{Kind}
-use Rattle.bound_tree.specs.declared.node.Kind.TheVariants.{Branch, Whole, Mean, Tangent, Edge, Exchange}
+use Rattle.bound_tree.specs.declared.node.Kind.TheVariants.{Branch, Whole, Mean, Tangent, Edge, Exchange, TwoLooks}
 use Rattle.bound_tree.specs.declared.plan.Plan.{Plan}
 use Rattle.bound_tree.specs.declared.gap.Numbers.{Numbers}
 use Rattle.bound_tree.specs.declared.gap.Numbers.TheVariants.{Means}
@@ -24,6 +25,7 @@ use Rattle.bound_tree.specs.declared.gap.GapNode.{GapNode}
 use Rattle.bound_tree.specs.declared.gap.GapPlan.{GapPlan}
 use Rattle.bound_tree.specs.Cut.{is_cut, times}
 use Rattle.bound_tree.specs.Close.{IsExact}
+use Rattle.bound_tree.specs.Asked.{HasTwoLooks}
 use Rattle.bound_tree.specs.Exchanges.{HasExchanges, TakesPlace, exchanged}
 use Rattle.bound_tree.specs.Accepts.{Extends, IsGoodKind, expected_by, Accepts}
 use Rattle.bound_tree.specs.Places.{opened_by, AreInPlace}
@@ -40,7 +42,7 @@ use Rattle.tree_checker.specs.declared.gap_verdict.GapRejectAt.{GapRejectAt}
 use Rattle.tree_checker.specs.declared.gap_verdict.GapVerdict.{GapVerdict}
 use Rattle.tree_checker.specs.declared.gap_verdict.GapVerdict.TheVariants as gaps
 use Rattle.tree_checker.specs.Rate.{one_rate_of}
-use Rattle.tree_checker.specs.Reasons.{Test, first_failed, path_tests, value_tests, tangent_tests, has_exchanges, takes_place, exchange_tests, kind_tests, plain_test, open_tests, node_tests, at_line, head_reason, next_reason, expected_past, nodes_reason, ceiling_reason, reason_from, as_plain, first_reason, verdict_of}
+use Rattle.tree_checker.specs.Reasons.{Test, first_failed, path_tests, value_tests, tangent_tests, has_exchanges, has_two_looks, takes_place, exchange_tests, kind_tests, plain_test, open_tests, node_tests, at_line, head_reason, next_reason, expected_past, nodes_reason, ceiling_reason, reason_from, as_plain, first_reason, verdict_of}
 use Rattle.tree_checker.specs.GapReasons.{gap_reason, gap_verdict_of}
 use Rattle.tree_checker.specs.Laws.{AcceptedWithNoReason, GapAcceptedWithNoReason}
 use Rattle.tree_checker.proofs.Paths.{is_path-Decides, is_legal-Decides, starts-Decides}
@@ -117,6 +119,13 @@ module _ (p : Problem) (s : Standing) where
     (λ x. and_from _ _ (and_from _ _ (le-leb 4 p.horizon x.periods) (le-leb 2 (length q) x.long)) (lt-ltb (length q) p.horizon x.short)),
   )
 
+  -- and that of whether it is asked for its bound of two looks
+  has_two_looks-Decides : (q : List ℕ) → Decides (has_two_looks p q) (HasTwoLooks p q)
+  has_two_looks-Decides q = (
+    (λ h. let parts = and_parts _ _ h in record { periods = leb-true 4 p.horizon parts.0; short = ltb-true (length q) p.horizon parts.1 }),
+    (λ x. and_from _ _ (le-leb 4 p.horizon x.periods) (lt-ltb (length q) p.horizon x.short)),
+  )
+
   -- and that of whether a position may take the place of the last but one
   takes_place-Decides : (q : List ℕ) (u : ℕ) → Decides (takes_place p q u) (TakesPlace p q u)
   takes_place-Decides q u =
@@ -145,6 +154,7 @@ module _ (p : Problem) (s : Standing) where
       (ltb-true (length q) p.horizon h.0, tangent.0, tangent.1)
   good_kind q (Edge b) h = (ltb-true (length q) p.horizon h.0, eqb-true b (edge_of p q) h.1.0, h.1.1.0)
   good_kind q (Exchange b u) h = good_exchange q b u h
+  good_kind q (TwoLooks b) h = ((has_two_looks-Decides q).0 h.0, eqb-true b (remembering_of p 2 q) h.1.0, h.1.1.0)
 
   pub kind_good : (q : List ℕ) (kind : Kind) → IsGoodKind p s q kind → AllTrue (kind_tests p s q kind)
   kind_good q Branch h = (lt-ltb (length q) p.horizon h, tt)
@@ -153,6 +163,7 @@ module _ (p : Problem) (s : Standing) where
   kind_good q (Tangent b whole) h = (lt-ltb (length q) p.horizon h.0, tangent_good q b whole h.1 h.2)
   kind_good q (Edge b) h = (lt-ltb (length q) p.horizon h.0, (eq-eqb b (edge_of p q) h.1, (h.2, tt)))
   kind_good q (Exchange b u) h = exchange_good q b u h
+  kind_good q (TwoLooks b) h = ((has_two_looks-Decides q).1 h.0, (eq-eqb b (remembering_of p 2 q) h.1, (h.2, tt)))
 
   -- a branch that passes its tests is shorter than the horizon
   pub short_branch : (q : List ℕ) (kind : Kind) → AllTrue (kind_tests p s q kind) → kind ≡ Branch → length q < p.horizon
@@ -162,6 +173,7 @@ module _ (p : Problem) (s : Standing) where
   short_branch q (Tangent b whole) h e = cc
   short_branch q (Edge b) h e = cc
   short_branch q (Exchange b u) h e = cc
+  short_branch q (TwoLooks b) h e = cc
 
 module _ (numbers : Numbers) (p : Problem) (s : Standing) where
   good_open : (q : List ℕ) (kind : GapKind) → AllTrue (open_tests numbers p s q kind) → IsGoodOpenKind numbers p s q kind

@@ -11,8 +11,9 @@ use Rattle.search_model.specs.Order.{smaller, better, standing_of}
 use Rattle.search_model.specs.Bounds.{greatest, mean_of, tangent_of}
 use Rattle.search_model.specs.Edge.{edge_of}
 use Rattle.search_model.specs.Exchange.{exchange_of}
+use Rattle.search_model.specs.Memory.{remembering_of}
 use Rattle.bound_tree.specs.declared.node.Kind.{Kind}
-use Rattle.bound_tree.specs.declared.node.Kind.TheVariants.{Branch, Whole, Mean, Tangent, Edge, Exchange}
+use Rattle.bound_tree.specs.declared.node.Kind.TheVariants.{Branch, Whole, Mean, Tangent, Edge, Exchange, TwoLooks}
 use Rattle.bound_tree.specs.declared.plan.Plan.{Plan}
 use Rattle.bound_tree.specs.declared.gap.Numbers.{Numbers}
 use Rattle.bound_tree.specs.declared.gap.Numbers.TheVariants.{Means}
@@ -79,6 +80,10 @@ tangent_tests p s q b whole (Some rate) =
 abbrev pub has_exchanges : Problem → List ℕ → Bool
 has_exchanges p q = nat_le 4 p.horizon && nat_le 2 (length q) && nat_lt (length q) p.horizon
 
+-- whether a prefix is asked for its bound that remembers two looks
+abbrev pub has_two_looks : Problem → List ℕ → Bool
+has_two_looks p q = nat_le 4 p.horizon && nat_lt (length q) p.horizon
+
 -- whether position u may take the place of a prefix's last but one
 abbrev pub takes_place : Problem → List ℕ → ℕ → Bool
 takes_place p q u = not (u == slice_index q (length q - 2)) && is_legal p (exchanged u q)
@@ -98,6 +103,7 @@ kind_tests p s q (Mean b) = (nat_lt (length q) p.horizon, WholeWrong) ∷ bound_
 kind_tests p s q (Tangent b whole) = (nat_lt (length q) p.horizon, WholeWrong) ∷ tangent_tests p s q b whole (one_rate_of p)
 kind_tests p s q (Edge b) = (nat_lt (length q) p.horizon, WholeWrong) ∷ bound_tests s q b (edge_of p q)
 kind_tests p s q (Exchange b u) = exchange_tests p q b u
+kind_tests p s q (TwoLooks b) = (has_two_looks p q, WholeWrong) ∷ bound_tests s q b (remembering_of p 2 q)
 
 -- the tests of where a record stands, by its prefix, where prefix q is expected: past both the prefix is q
 abbrev pub place_tests : List ℕ → List ℕ → List Test

@@ -9,7 +9,7 @@ ghost use Rattle.tree_checker.specs.Rate.{one_rate_of};
 ghost use Rattle.tree_checker.specs.Reasons.{first_failed, bound_tests, kind_tests, tangent_tests, exchange_tests};
 ghost use Rattle.tree_checker.specs.Tables.{AreMadeFor};
 
-use crate::path_tests::{has_exchanges, is_path_from, takes_place};
+use crate::path_tests::{has_exchanges, has_two_looks, is_path_from, takes_place};
 use crate::tables::BoundTables;
 use crate::verdict::Why;
 use bound_tree::{cuts, in_parts};
@@ -67,6 +67,27 @@ pub(crate) fn edge_reason(
 {
     if prefix.len() < sc.horizon() as usize {
         bound_reason(standing, prefix, bound, tables.edge_bound(sc, prefix))
+    } else {
+        Some(Why::WholeWrong)
+    }
+}
+
+/// The first reason against a bound that remembers two looks, at a legal prefix.
+pub(crate) fn two_look_reason(
+    sc: &Scenario,
+    tables: &mut BoundTables,
+    standing: &Standing,
+    prefix: &Path,
+    bound: u128,
+) -> Option<Why>
+    requires made { AreMadeFor sc.now tables.old }
+    requires legal { IsLegal sc.now prefix.now }
+    requires exact { IsExact sc.now standing.now }
+    ensures reason { result ≡ first_failed (kind_tests sc.now standing.now prefix.now (Kind.TwoLooks bound)) }
+    ensures made { AreMadeFor sc.now tables.new }
+{
+    if has_two_looks(sc, prefix) {
+        bound_reason(standing, prefix, bound, tables.two_look_bound(sc, prefix))
     } else {
         Some(Why::WholeWrong)
     }

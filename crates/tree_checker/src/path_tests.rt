@@ -4,7 +4,7 @@ ghost use Rattle.std.specs.Prelude.{◌≡◌, ◌≤◌, ◌&&◌, IsTrue, nat_
 ghost use Rattle.std.specs.List.{starts_with};
 ghost use Rattle.search_model.specs.Legal.{IsLegal, IsPath};
 ghost use Rattle.bound_tree.specs.Exchanges.{exchanged};
-ghost use Rattle.tree_checker.specs.Reasons.{is_path as is_path_lem, has_exchanges as has_exchanges_lem, takes_place as takes_place_lem};
+ghost use Rattle.tree_checker.specs.Reasons.{is_path as is_path_lem, has_exchanges as has_exchanges_lem, has_two_looks as has_two_looks_lem, takes_place as takes_place_lem};
 
 use search_model::{Path, Scenario};
 
@@ -32,6 +32,13 @@ pub(crate) fn has_exchanges(sc: &Scenario, prefix: &Path) -> bool
     ensures { result ≡ has_exchanges_lem sc.now prefix.now }
 {
     sc.horizon() >= 4 && prefix.len() >= 2 && prefix.len() < sc.horizon() as usize
+}
+
+/// Whether a prefix is asked for its bound that remembers two looks.
+pub(crate) fn has_two_looks(sc: &Scenario, prefix: &Path) -> bool
+    ensures { result ≡ has_two_looks_lem sc.now prefix.now }
+{
+    sc.horizon() >= 4 && prefix.len() < sc.horizon() as usize
 }
 
 /// Whether position `u` may take the place of a prefix's last but one, where `other` is what comes of it.

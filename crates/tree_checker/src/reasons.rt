@@ -6,7 +6,7 @@ ghost use Rattle.bound_tree.specs.Close.{IsExact};
 ghost use Rattle.tree_checker.specs.Reasons.{first_failed, value_tests, kind_tests, open_tests, node_tests, head_reason as head_reason_lem};
 ghost use Rattle.tree_checker.specs.Tables.{AreMadeFor};
 
-use crate::bounds::{edge_reason, exchange_reason, mean_reason, tangent_reason};
+use crate::bounds::{edge_reason, exchange_reason, mean_reason, tangent_reason, two_look_reason};
 use crate::gap_verdict::{GapRejectAt, GapWhy};
 use crate::path_tests::is_path;
 use crate::tables::BoundTables;
@@ -117,6 +117,7 @@ fn kind_reason(
         }
         Kind::Edge(bound) => edge_reason(sc, tables, standing, prefix, *bound),
         Kind::Exchange(bound, u) => exchange_reason(sc, tables, prefix, *bound, *u),
+        Kind::TwoLooks(bound) => two_look_reason(sc, tables, standing, prefix, *bound),
     }
 }
 

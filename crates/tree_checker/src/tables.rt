@@ -7,6 +7,7 @@ ghost use Rattle.search_model.specs.Tracks.{value_of};
 ghost use Rattle.search_model.specs.Bounds.{mean_of, IsRate, tangent_of};
 ghost use Rattle.search_model.specs.Edge.{edge_of};
 ghost use Rattle.search_model.specs.Exchange.{exchange_of};
+ghost use Rattle.search_model.specs.Memory.{remembering_of};
 ghost use Rattle.bound_tree.specs.Gaps.{ceiling_of};
 ghost use Rattle.tree_checker.specs.Rate.{one_rate_of};
 ghost use Rattle.tree_checker.specs.Tables.{AreMadeFor};
@@ -18,6 +19,7 @@ use exchange_bound::ExchangeTables;
 use search_model::{Path, Scenario};
 use std::alloc::Global;
 use tangent_bound::TangentTables;
+use two_look_bound::TwoLookTables;
 
 /// The tables of the bounds. All values and bounds go by what the mean bound keeps: the positions within reach, and the
 /// beliefs, of which a prefix uses those of the part that it has in common with the one before it. The tables of exchanges
@@ -27,6 +29,7 @@ pub(crate) struct BoundTables {
     pub(crate) ceilings: Ceilings,
     pub(crate) tangent: TangentTables,
     pub(crate) exchange: ExchangeTables,
+    pub(crate) two_looks: TwoLookTables,
 }
 
 impl BoundTables {
@@ -36,11 +39,13 @@ impl BoundTables {
     {
         let tangent = TangentTables::tables(alloc, sc)?;
         let exchange = ExchangeTables::tables(alloc, sc)?;
+        let two_looks = TwoLookTables::tables(alloc, sc)?;
         let ceilings = Ceilings::tables(alloc, sc)?;
         Ok(BoundTables {
             ceilings,
             tangent,
             exchange,
+            two_looks,
         })
     }
 
@@ -118,6 +123,19 @@ impl BoundTables {
         ensures made { AreMadeFor sc.now self.new }
     {
         self.ceilings.edge_bound(sc, prefix)
+    }
+
+    /// The bound that remembers two looks, of a legal prefix that is shorter than the horizon.
+    pub(crate) fn two_look_bound(&mut self, sc: &Scenario, prefix: &Path) -> u128
+        requires made { AreMadeFor sc.now self.old }
+        requires legal { IsLegal sc.now prefix.now }
+        requires open { length prefix.now < sc.now.horizon }
+        ensures value { result ≡ remembering_of sc.now 2 prefix.now }
+        ensures made { AreMadeFor sc.now self.new }
+    {
+        self.ceilings.mean.go_to(sc, prefix);
+        let (near, onward) = (self.ceilings.mean.near(), self.ceilings.mean.onward());
+        self.two_looks.bound(sc, near, onward, prefix)
     }
 
     /// The value of a legal prefix that may stand in for another.
