@@ -6,6 +6,7 @@ use Rattle.mean_bound.specs.Means.{MeanState, IsMadeFor as IsMeanFor}
 use Rattle.tangent_bound.specs.Room.{TangentRoom, AreTablesFor as AreTangentTablesFor}
 use Rattle.edge_bound.specs.Edges.{EdgeRoom, AreTablesFor as AreEdgeTablesFor}
 use Rattle.exchange_bound.specs.Exchanges.{ExchangeState, IsMadeFor as IsExchangeFor}
+use Rattle.two_look_bound.specs.Rooms.{TwoLookRoom, AreTablesFor as AreTwoLookTablesFor}
 
 -- the tables of the bounds
 pub record NodeTables : Type 0 where
@@ -13,6 +14,7 @@ pub record NodeTables : Type 0 where
   pub tangent : TangentRoom
   pub edge : EdgeRoom
   pub exchange : ExchangeState
+  pub two_looks : TwoLookRoom
 
 -- whether a problem has one rate
 abbrev pub TellsRate : Problem → Bool → Type 0
@@ -25,3 +27,4 @@ pub record IsMadeFor (p : Problem) (s : NodeTables) : Type 0 where
   pub tangent : AreTangentTablesFor p s.tangent
   pub edge : AreEdgeTablesFor p s.edge
   pub exchange : IsExchangeFor p s.exchange
+  pub two_looks : AreTwoLookTablesFor p s.two_looks

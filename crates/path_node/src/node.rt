@@ -1,13 +1,14 @@
 //! Closing a prefix.
 
-ghost use Rattle.std.specs.Prelude.{◌≡◌, ◌<◌, ◌≤◌, ◌+◌, ℕ, length, IfOk, IsTrue, IsFalse};
+ghost use Rattle.std.specs.Prelude.{◌≡◌, ◌<◌, ◌≤◌, ◌+◌, ℕ, length, IfOk, IfSome, IfNone, IsTrue, IsFalse};
 ghost use Rattle.search_model.specs.Problem.{Problem};
 ghost use Rattle.search_model.specs.Legal.{IsLegal, moves_after};
 ghost use Rattle.search_model.specs.Bounds.{IsRate, mean_of, tangent_of};
 ghost use Rattle.search_model.specs.Edge.{edge_of};
 ghost use Rattle.search_model.specs.Reference.{IsReference};
-ghost use Rattle.bound_tree.specs.Close.{IsClosed, IsExact, IsAtLeast, IsLeftOpen};
+ghost use Rattle.bound_tree.specs.Close.{IsClosed, IsExact, IsAtLeast, IsLeftOpen, IsLeftOver};
 ghost use Rattle.bound_tree.specs.Cut.{is_cut};
+ghost use Rattle.bound_tree.specs.Exchanges.{HasNoStandIn};
 ghost use Rattle.mean_bound.specs.Means.{IsMadeFor as IsMeanFor, IsAlong, IsFilledFor};
 ghost use Rattle.tangent_bound.specs.Room.{AreTablesFor as AreTangentTablesFor};
 ghost use Rattle.path_node.specs.Room.{IsMadeFor, TellsRate};
@@ -22,6 +23,7 @@ use search_model::{Path, Scenario, Standing};
 use std::alloc::Global;
 use std::marker::Model;
 use tangent_bound::TangentTables;
+use two_look_bound::TwoLookTables;
 
 /// Tables with which prefixes of one scenario are closed: those of the bounds. All bounds and values go by what the mean bound
 /// keeps: the positions within reach, and the beliefs after the prefix that is closed and after each shorter front of it.
@@ -31,6 +33,7 @@ pub struct Scratch {
     tangent: TangentTables,
     edge: EdgeTables,
     exchange: ExchangeTables,
+    two_looks: TwoLookTables,
 }
 
 impl Model for Scratch {
@@ -38,7 +41,13 @@ impl Model for Scratch {
 
     ghost Value = { NodeTables };
 
-    ghost view = { λ s. record { mean = s.mean; tangent = s.tangent; edge = s.edge; exchange = s.exchange } };
+    ghost view = { λ s. record {
+      mean = s.mean;
+      tangent = s.tangent;
+      edge = s.edge;
+      exchange = s.exchange;
+      two_looks = s.two_looks;
+    } };
 }
 
 // Whether the looks of the scenario that the tables of a tangent bound were made for have one rate, which they keep.
@@ -55,6 +64,7 @@ impl Scratch {
     {
         let edge = EdgeTables::tables(alloc, sc)?;
         let exchange = ExchangeTables::tables(alloc, sc)?;
+        let two_looks = TwoLookTables::tables(alloc, sc)?;
         let tangent = TangentTables::tables(alloc, sc)?;
         let mean = Mean::tables(alloc, sc)?;
         Ok(Scratch {
@@ -62,6 +72,7 @@ impl Scratch {
             tangent,
             edge,
             exchange,
+            two_looks,
         })
     }
 
@@ -90,24 +101,85 @@ fn reference_of(mean: &Mean, sc: &Scenario, prefix: &Path) -> Path
 }
 
 // Closes a prefix whose bounds the standing leaves open, whichever it is: by the best of the prefixes that stand in for it,
-// where it is asked for one.
-fn close_by_exchange(scratch: &mut Scratch, sc: &Scenario, prefix: &Path) -> Kind
+// where it is asked for one and has one.
+fn close_by_exchange(scratch: &mut Scratch, sc: &Scenario, prefix: &Path) -> Option<Kind>
     requires made { IsMadeFor sc.now scratch.old }
     requires there { IsAlong prefix.now scratch.old.mean }
     requires legal { IsLegal sc.now prefix.now }
     requires shorter { length prefix.now < sc.now.horizon }
-    ensures closed { (s : Standing) → IsLeftOpen sc.now s prefix.now → IsFalse (is_cut (edge_of sc.now prefix.now) prefix.now s) →
-        IsClosed sc.now s prefix.now result }
+    ensures closed { IfSome result (λ kind. (s : Standing) → IsLeftOpen sc.now s prefix.now →
+        IsFalse (is_cut (edge_of sc.now prefix.now) prefix.now s) → IsClosed sc.now s prefix.now kind) }
+    ensures none { IfNone result (HasNoStandIn sc.now prefix.now) }
     ensures made { IsMadeFor sc.now scratch.new }
+    ensures there { IsAlong prefix.now scratch.new.mean }
 {
     if sc.horizon() < 4 || prefix.len() < 2 {
+        return None;
+    }
+    let near = scratch.mean.near();
+    let onward = scratch.mean.onward();
+    let found = scratch.exchange.best_stand_in(sc, near, onward, prefix)?;
+    Some(Kind::Exchange(found.bound, found.position))
+}
+
+// Closes a prefix that is left over where no other bound closes it: by its bound that remembers two looks, where it is asked for
+// that and the standing cuts it.
+fn close_by_two_looks(
+    scratch: &mut Scratch,
+    sc: &Scenario,
+    prefix: &Path,
+    reference: &Path,
+    standing: &Standing,
+) -> Kind
+    requires made { IsMadeFor sc.now scratch.old }
+    requires there { IsAlong prefix.now scratch.old.mean }
+    requires legal { IsLegal sc.now prefix.now }
+    requires shorter { length prefix.now < sc.now.horizon }
+    requires reference { IsReference sc.now prefix.now reference.now }
+    requires left { IsLeftOver sc.now standing.now prefix.now }
+    requires exact { IsExact sc.now standing.now }
+    ensures closed { IsClosed sc.now standing.now prefix.now result }
+    ensures made { IsMadeFor sc.now scratch.new }
+{
+    sc.recall_sound();
+    if sc.horizon() < 4 {
         return Kind::Branch;
     }
     let near = scratch.mean.near();
     let onward = scratch.mean.onward();
-    match scratch.exchange.best_stand_in(sc, near, onward, prefix) {
-        Some(found) => Kind::Exchange(found.bound, found.position),
-        None => Kind::Branch,
+    let enough = standing.value + 1;
+    let bound = scratch
+        .two_looks
+        .bound_or_enough(sc, near, onward, prefix, reference, enough);
+    if cuts(standing, bound, prefix) {
+        Kind::TwoLooks(bound)
+    } else {
+        Kind::Branch
+    }
+}
+
+// Closes a prefix that neither its mean bound, nor a tangent bound, nor its edge bound rules out.
+fn close_past_edge(
+    scratch: &mut Scratch,
+    sc: &Scenario,
+    prefix: &Path,
+    reference: &Path,
+    standing: &Standing,
+) -> Kind
+    requires made { IsMadeFor sc.now scratch.old }
+    requires there { IsAlong prefix.now scratch.old.mean }
+    requires legal { IsLegal sc.now prefix.now }
+    requires shorter { length prefix.now < sc.now.horizon }
+    requires reference { IsReference sc.now prefix.now reference.now }
+    requires open { IsLeftOpen sc.now standing.now prefix.now }
+    requires edge { IsFalse (is_cut (edge_of sc.now prefix.now) prefix.now standing.now) }
+    requires exact { IsExact sc.now standing.now }
+    ensures closed { IsClosed sc.now standing.now prefix.now result }
+    ensures made { IsMadeFor sc.now scratch.new }
+{
+    match close_by_exchange(scratch, sc, prefix) {
+        Some(kind) => kind,
+        None => close_by_two_looks(scratch, sc, prefix, reference, standing),
     }
 }
 
@@ -140,7 +212,7 @@ fn close_by_edge(
     if cuts(standing, edge, prefix) {
         Kind::Edge(edge)
     } else {
-        close_by_exchange(scratch, sc, prefix)
+        close_past_edge(scratch, sc, prefix, reference, standing)
     }
 }
 
@@ -274,8 +346,9 @@ fn close_shorter(scratch: &mut Scratch, sc: &Scenario, prefix: &Path, standing: 
 /// The record of a legal prefix, closed under a standing: a path by its value; a shorter prefix by its mean bound
 /// (Martins 1993) where the standing cuts that, else by its tangent bound where the looks have one rate and the standing
 /// cuts it, else by its edge bound where the standing cuts that, else, where it has two positions and the horizon is 4 or
-/// more, by the best of the prefixes that stand in for it with another position in place of its last but one, and else it
-/// branches. A bound is computed only where those before it rule nothing out. Takes no memory.
+/// more, by the best of the prefixes that stand in for it with another position in place of its last but one, else, where the
+/// horizon is 4 or more, by its bound that remembers two looks where the standing cuts that, and else it branches. A bound is
+/// computed only where those before it rule nothing out. Takes no memory.
 pub fn close(scratch: &mut Scratch, sc: &Scenario, prefix: &Path, standing: &Standing) -> TreeNode
     requires made { IsMadeFor sc.now scratch.old }
     requires legal { IsLegal sc.now prefix.now }

@@ -22,18 +22,17 @@ returns-then-cuts-clause-closed c =
     (c.requires.shorter, c.requires.open, c.bound_or_enough-edge.ensures.bound (omega (arith, least)), cut)
 
 -- a number that shows the bound to be above the standing's value tells as much as the bound
-pub returns-else-cuts-clause-closed : goal.returns-else-cuts-clause-closed
-returns-else-cuts-clause-closed c =
+pub close_past_edge-requires-clause-edge : goal.close_past_edge-requires-clause-edge
+close_past_edge-requires-clause-edge c =
     let p = c.args.sc.now in
     let q = c.args.prefix.now in
     let s = c.args.standing.now in
     let edge = c.bound_or_enough-edge.result in
     let free : IsFalse (is_cut edge q s) = sym c.cuts.ensures ∙ c.if-cuts.false in
-    let left : IsFalse (is_cut (edge_of p q) q s) = elim (cases_lt edge (s.value + 1)) [
+    elim (cases_lt edge (s.value + 1)) [
       | inl below ↦ sym (ap (λ n. is_cut n q s) (c.bound_or_enough-edge.ensures.bound below)) ∙ free
       | inr enough ↦ let above = c.bound_or_enough-edge.ensures.enough enough in above-open (edge_of p q) q s (omega (arith, above))
-    ] in
-    c.close_by_exchange.ensures.closed s c.requires.open left
+    ]
 
 pub bound_or_enough-edge-requires-clause-onward : goal.bound_or_enough-edge-requires-clause-onward
 bound_or_enough-edge-requires-clause-onward c =
