@@ -11,7 +11,7 @@ use Rattle.search_model.specs.Names.{IsName}
 use Rattle.search_model.specs.Problem.{Problem, IsProblem, position_name}
 use Rattle.search_model.specs.declared.standing.Standing.{Standing}
 use Rattle.bound_tree.specs.declared.node.Kind.{Kind}
-use Rattle.bound_tree.specs.declared.node.Kind.TheVariants.{Branch, Whole, Mean, Tangent, Edge, Exchange}
+use Rattle.bound_tree.specs.declared.node.Kind.TheVariants.{Branch, Whole, Mean, Tangent, Edge, Exchange, TwoLooks}
 use Rattle.bound_tree.specs.declared.gap.GapKind.{GapKind}
 use Rattle.bound_tree.specs.declared.gap.GapKind.TheVariants.{Closed, Waiting}
 use Rattle.bound_tree.specs.declared.gap.GapNode.{GapNode}
@@ -101,6 +101,7 @@ module _ (p : Problem) (sound : IsProblem p) where
   kind_line (Exchange b u) printable narrow =
       let places = All-cons (λ a. a < p.positions) u [] printable (All-nil (λ a. a < p.positions)) in
       listed_line (codes "X") b (u ∷ []) (omega arith) narrow (low_positions (u ∷ []) places) (omega arith)
+  kind_line (TwoLooks b) printable narrow = omega (arith, numbered_line (codes "D") b (omega arith) narrow)
 
   -- a node's line: at most 170 bytes where it is closed, and 42 where it waits
   node_line : (q : List ℕ) (kind : GapKind) → IsPrintableKind p (shape_of_kind kind) → IsNarrowNode kind → length (text_of (node_fields [] kind ∷ [])) ≤ 42 + length (record_at q kind) * 128

@@ -8,7 +8,7 @@ use Rattle.search_model.specs.Problem.{Problem, IsProblem}
 use Rattle.search_model.specs.Legal.{Follows, IsLegal}
 use Rattle.search_model.proofs.PlainSteps.{positions_follow}
 use Rattle.bound_tree.specs.declared.node.Kind.{Kind}
-use Rattle.bound_tree.specs.declared.node.Kind.TheVariants.{Branch, Whole, Mean, Tangent, Edge, Exchange}
+use Rattle.bound_tree.specs.declared.node.Kind.TheVariants.{Branch, Whole, Mean, Tangent, Edge, Exchange, TwoLooks}
 use Rattle.bound_tree.specs.declared.node.TreeNode.{TreeNode}
 use Rattle.bound_tree.specs.declared.plan.Plan.{Plan}
 use Rattle.bound_tree.specs.Accepts.{IsGoodKind, expected_by, AreEaten, Accepts}
@@ -33,6 +33,7 @@ module _ (p : Problem) (sound : IsProblem p) (s : Standing) where
       let last : List ℕ = slice_index q (length q - 1) ∷ [] in
       let places = follows_positions (exchanged u q) good.1.legal.follows in
       All-head (λ a. a < p.positions) u last (All-back (λ a. a < p.positions) (take (length q - 2) q) (u ∷ last) places)
+  kind_printable q (TwoLooks b) good = tt
 
   -- a branch that is good is shorter than the horizon
   branch_is_short : (q : List ℕ) (kind : Kind) → IsGoodKind p s q kind → kind ≡ Branch → length q < p.horizon
@@ -42,6 +43,7 @@ module _ (p : Problem) (sound : IsProblem p) (s : Standing) where
   branch_is_short q (Tangent b whole) good e = let bad : ⊥ = cc in absurd bad
   branch_is_short q (Edge b) good e = let bad : ⊥ = cc in absurd bad
   branch_is_short q (Exchange b u) good e = let bad : ⊥ = cc in absurd bad
+  branch_is_short q (TwoLooks b) good e = let bad : ⊥ = cc in absurd bad
 
   -- records that are eaten can be written
   eaten_printable : (qs : List (List ℕ)) (rs : List TreeNode) → All (IsLegal p) qs → AreEaten p s qs rs → All (IsPrintableRecord p) rs

@@ -6,7 +6,7 @@ use Rattle.std.proofs.lemmas.List.Elements.{All-weaker}
 use Rattle.search_model.specs.declared.standing.Standing.{Standing}
 use Rattle.search_model.specs.Problem.{Problem}
 use Rattle.bound_tree.specs.declared.node.Kind.{Kind}
-use Rattle.bound_tree.specs.declared.node.Kind.TheVariants.{Branch, Whole, Mean, Tangent, Edge, Exchange}
+use Rattle.bound_tree.specs.declared.node.Kind.TheVariants.{Branch, Whole, Mean, Tangent, Edge, Exchange, TwoLooks}
 use Rattle.bound_tree.specs.declared.plan.Plan.{Plan}
 use Rattle.bound_tree.specs.declared.gap.GapKind.{GapKind}
 use Rattle.bound_tree.specs.declared.gap.GapKind.TheVariants.{Closed, Waiting}
@@ -27,7 +27,8 @@ use Rattle.tree_format.specs.declared.stop.PlanStop.{PlanStop}
 use Rattle.tree_format.specs.declared.stop.PlanStop.TheVariants.{Fault}
 use Rattle.tree_format.specs.Gives.{Says}
 
--- a dialect that serves a problem: it leaves prefixes out, and has letters for edge bounds and, from horizon 4 on, for exchanges
+-- a dialect that serves a problem: it leaves prefixes out, and has letters for edge bounds and, from horizon 4 on, for
+-- exchanges and bounds that remember two looks
 pub record Serves (v : Dialect) (p : Problem) : Type 0 where
   pub lean : prefixes_in v ≡ LeftOut
   pub edges : has_edges v ≡ true
@@ -76,6 +77,7 @@ module _ (v : Dialect) (p : Problem) (s : Standing) (serves : Serves v p) where
   kind_lettered q (Tangent b whole) good = tt
   kind_lettered q (Edge b) good = serves.edges
   kind_lettered q (Exchange b u) good = serves.exchanges good.0.periods
+  kind_lettered q (TwoLooks b) good = serves.exchanges good.0.periods
 
   -- and so has a good node, where nodes may wait
   pub node_lettered : (n : Numbers) (q : List ℕ) (kind : GapKind) → has_open v ≡ true → IsGoodOpenKind n p s q kind → HasNodeLetter v kind

@@ -82,7 +82,8 @@ fn same_kind(a: &Kind, b: &Kind) -> bool {
         (Kind::Branch, Kind::Branch) => true,
         (Kind::Whole(x), Kind::Whole(y))
         | (Kind::Mean(x), Kind::Mean(y))
-        | (Kind::Edge(x), Kind::Edge(y)) => x == y,
+        | (Kind::Edge(x), Kind::Edge(y))
+        | (Kind::TwoLooks(x), Kind::TwoLooks(y)) => x == y,
         (Kind::Tangent(x, p), Kind::Tangent(y, q)) => x == y && p.cells() == q.cells(),
         (Kind::Exchange(x, u), Kind::Exchange(y, v)) => x == y && u == v,
         _ => false,

@@ -224,6 +224,22 @@ E 5
 T 12 1 1 2 2
 X 340282366920938463463374607431768211455 0
 end
+== row 4
+plan 3
+path c c c c
+chance 15 16
+nodes 10
+B
+E 12
+D 14
+B
+E 14
+B
+M 14
+B
+W 14
+W 15
+end
 == row 3
 plan 3
 path c c c

@@ -5,7 +5,7 @@ use crate::plan_feeds::tells_as_read;
 use crate::plan_scenarios::asked;
 use crate::plan_tables::TEXTS;
 use bound_tree::{Kind, Plan, TreeNode};
-use search_model::Scenario;
+use search_model::{Path, Scenario};
 use std::alloc::{AllocError, Global};
 use std::test::Fail;
 use tree_format::{
@@ -95,48 +95,42 @@ fn rows_that_print_back(alloc: Global, table: &str) -> Result<u32, Fail> {
 // A branch opens as many records as its position has moves.
 #[test]
 fn texts_print_back(rt: HostRuntime) -> Result<(), Fail> {
-    assert_eq!(rt; rows_that_print_back(rt.alloc(), TEXTS)?, 22);
+    assert_eq!(rt; rows_that_print_back(rt.alloc(), TEXTS)?, 23);
     Ok(())
 }
 
-fn is_tangent(node: &TreeNode, prefix: &[u8], number: u128, reference: &[u8]) -> bool {
-    match node.kind {
-        Kind::Tangent(bound, path) => {
-            node.prefix.cells() == prefix && bound == number && path.cells() == reference
+// A record as its letter, its number, and the positions that it refers to.
+fn told(kind: &Kind) -> (char, u128, Path) {
+    let mut place = Path::empty();
+    match kind {
+        Kind::Branch => ('B', 0, place),
+        Kind::Whole(number) => ('W', *number, place),
+        Kind::Mean(number) => ('M', *number, place),
+        Kind::Tangent(number, reference) => ('T', *number, *reference),
+        Kind::Edge(number) => ('E', *number, place),
+        Kind::Exchange(number, u) => {
+            place.push(*u);
+            ('X', *number, place)
         }
-        Kind::Branch | Kind::Whole(_) | Kind::Mean(_) | Kind::Edge(_) | Kind::Exchange(..) => false,
+        Kind::TwoLooks(number) => ('D', *number, place),
     }
 }
 
-fn is_mean(node: &TreeNode, prefix: &[u8], number: u128) -> bool {
-    match node.kind {
-        Kind::Mean(bound) => node.prefix.cells() == prefix && bound == number,
-        Kind::Branch | Kind::Whole(_) | Kind::Tangent(..) | Kind::Edge(_) | Kind::Exchange(..) =>
-            false,
-    }
-}
-
-fn is_edge(node: &TreeNode, prefix: &[u8], number: u128) -> bool {
-    match node.kind {
-        Kind::Edge(bound) => node.prefix.cells() == prefix && bound == number,
-        Kind::Branch | Kind::Whole(_) | Kind::Mean(_) | Kind::Tangent(..) | Kind::Exchange(..) =>
-            false,
-    }
-}
-
-fn is_exchange(node: &TreeNode, prefix: &[u8], number: u128, position: u8) -> bool {
-    match node.kind {
-        Kind::Exchange(bound, u) => {
-            node.prefix.cells() == prefix && bound == number && u == position
-        }
-        Kind::Branch | Kind::Whole(_) | Kind::Mean(_) | Kind::Tangent(..) | Kind::Edge(_) => false,
-    }
+fn is_record(
+    node: &TreeNode,
+    letter: char,
+    prefix: &[u8],
+    number: u128,
+    reference: &[u8],
+) -> bool {
+    let (is, n, places) = told(&node.kind);
+    node.prefix.cells() == prefix && is == letter && n == number && places.cells() == reference
 }
 
 fn says_three_periods(plan: &Plan) -> bool {
     let nodes = match plan.tree.nodes() {
         [_, mean, tangent, _, _, _, _, _] => {
-            is_mean(mean, &[0], 4) && is_tangent(tangent, &[1], 12, &[1, 2, 2])
+            is_record(mean, 'M', &[0], 4, &[]) && is_record(tangent, 'T', &[1], 12, &[1, 2, 2])
         }
         _ => false,
     };
@@ -152,7 +146,7 @@ fn says_two_cells_2(plan: &Plan) -> bool {
         [_, branch, _, whole, mean] => {
             branch.prefix.cells() == [0].as_slice()
                 && whole.prefix.cells() == [0, 1].as_slice()
-                && is_mean(mean, &[1], 12)
+                && is_record(mean, 'M', &[1], 12, &[])
         }
         _ => false,
     }
@@ -161,7 +155,9 @@ fn says_two_cells_2(plan: &Plan) -> bool {
 // A plan with an edge bound has no text of version 1.
 fn says_an_edge(plan: &Plan) -> bool {
     match plan.tree.nodes() {
-        [_, _, edge, ..] => !has_letters(Dialect::PlanOne, plan) && is_edge(edge, &[1], 6),
+        [_, _, edge, ..] => {
+            !has_letters(Dialect::PlanOne, plan) && is_record(edge, 'E', &[1], 6, &[])
+        }
         _ => false,
     }
 }
@@ -170,7 +166,7 @@ fn says_an_edge(plan: &Plan) -> bool {
 fn says_an_exchange(plan: &Plan) -> bool {
     match plan.tree.nodes() {
         [_, _, _, exchange, ..] => {
-            !has_letters(Dialect::PlanTwo, plan) && is_exchange(exchange, &[1, 0], 6, 2)
+            !has_letters(Dialect::PlanTwo, plan) && is_record(exchange, 'X', &[1, 0], 6, &[2])
         }
         _ => false,
     }

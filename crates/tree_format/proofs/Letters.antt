@@ -13,7 +13,7 @@ use Rattle.bound_tree.specs.declared.gap.GapKind.TheVariants as nodes
 use Rattle.bound_tree.specs.Gaps.{shape_of_kind}
 use Rattle.tree_format.specs.declared.plan_line.Dialect.{Dialect}
 use Rattle.tree_format.specs.declared.record_lines.Numbered.{Numbered}
-use Rattle.tree_format.specs.declared.record_lines.Numbered.TheVariants.{Whole, Mean, Tangent, Edge, Exchange, Waiting}
+use Rattle.tree_format.specs.declared.record_lines.Numbered.TheVariants.{Whole, Mean, Tangent, Edge, Exchange, TwoLooks, Waiting}
 use Rattle.tree_format.specs.Dialects.{prefixes_in}
 use Rattle.tree_format.specs.Letters.{letter_for, has_numbered, referred, kind_with, kind_among}
 use Rattle.tree_format.specs.PlanText.{numbers, node_fields, ArePositions, IsPrintableKind, IsNarrowNode, HasNodeLetter}
@@ -56,6 +56,7 @@ has_number p v (Closed (kinds.Edge n)) k narrow has = inr (bare p v Edge n _ ref
 has_number p v (Closed (kinds.Exchange n u)) k narrow has =
     let P : ℕ → Type 0 = λ a. a < p.positions in
     inr (record { letter = Exchange; number = n; reference = u ∷ []; is = refl; long = refl; positions = All-cons P u [] k (All-nil P); narrow = narrow; has = has })
+has_number p v (Closed (kinds.TwoLooks n)) k narrow has = inr (bare p v TwoLooks n _ refl refl narrow has)
 has_number p v (nodes.Waiting n) k narrow has = inr (bare p v Waiting n _ refl refl narrow has)
 
 -- The row of each.
@@ -72,6 +73,7 @@ numbered_row p Edge q n reference long = bare_row (codes "E") (decimal n) q refe
 numbered_row p Exchange q n [] long = absurd (let bad : ⊥ = cc in bad)
 numbered_row p Exchange q n (u ∷ []) long = refl
 numbered_row p Exchange q n (u ∷ a ∷ rest) long = absurd (let bad : ⊥ = cc in bad)
+numbered_row p TwoLooks q n reference long = bare_row (codes "D") (decimal n) q reference long
 numbered_row p Waiting q n reference long = bare_row (codes "O") (decimal n) q reference long
 
 -- it can be written
@@ -82,6 +84,7 @@ numbered_printable p Tangent n reference long positions = (positions, long)
 numbered_printable p Edge n reference long positions = tt
 numbered_printable p Exchange n [] long positions = absurd (let bad : ⊥ = cc in bad)
 numbered_printable p Exchange n (u ∷ rest) long positions = All-head (λ (a : ℕ). a < p.positions) u rest positions
+numbered_printable p TwoLooks n reference long positions = tt
 numbered_printable p Waiting n reference long positions = tt
 
 pub numbered_narrow : (letter : Numbered) (n : ℕ) (reference : List ℕ) → n < 2 ^ 128 → IsNarrowNode (kind_with letter n reference)
@@ -90,6 +93,7 @@ numbered_narrow Mean n reference narrow = narrow
 numbered_narrow Tangent n reference narrow = narrow
 numbered_narrow Edge n reference narrow = narrow
 numbered_narrow Exchange n reference narrow = narrow
+numbered_narrow TwoLooks n reference narrow = narrow
 numbered_narrow Waiting n reference narrow = narrow
 
 -- and a dialect that has the letter has it for the record
@@ -99,6 +103,7 @@ numbered_letter v Mean n reference has = tt
 numbered_letter v Tangent n reference has = tt
 numbered_letter v Edge n reference has = has
 numbered_letter v Exchange n reference has = has
+numbered_letter v TwoLooks n reference has = has
 numbered_letter v Waiting n reference has = has
 
 -- Letters.
@@ -109,6 +114,7 @@ letter_field Mean = word (codes "M") (omega arith) refl
 letter_field Tangent = word (codes "T") (omega arith) refl
 letter_field Edge = word (codes "E") (omega arith) refl
 letter_field Exchange = word (codes "X") (omega arith) refl
+letter_field TwoLooks = word (codes "D") (omega arith) refl
 letter_field Waiting = word (codes "O") (omega arith) refl
 
 pub letter_short : (letter : Numbered) → length (letter_for letter) < 40
@@ -117,6 +123,7 @@ letter_short Mean = omega arith
 letter_short Tangent = omega arith
 letter_short Edge = omega arith
 letter_short Exchange = omega arith
+letter_short TwoLooks = omega arith
 letter_short Waiting = omega arith
 
 -- a line with a letter that the dialect has is one of its kind
@@ -126,6 +133,7 @@ letter_line p v Mean fields has = refl
 letter_line p v Tangent fields has = refl
 letter_line p v Edge fields has = rw has refl
 letter_line p v Exchange fields has = rw has refl
+letter_line p v TwoLooks fields has = rw has refl
 letter_line p v Waiting fields has = rw has refl
 
 -- and the kind that is found has the letter

@@ -7,7 +7,7 @@ use Rattle.list_laws.proofs.Mapped.{map-map}
 use Rattle.text_rows.specs.Rows.{text_of, spaced}
 use Rattle.text_rows.proofs.RowLemmas.{join-fields, text_of-append}
 use Rattle.search_model.specs.Problem.{Problem}
-use Rattle.bound_tree.specs.declared.node.Kind.TheVariants.{Branch, Whole, Mean, Tangent, Edge, Exchange}
+use Rattle.bound_tree.specs.declared.node.Kind.TheVariants.{Branch, Whole, Mean, Tangent, Edge, Exchange, TwoLooks}
 use Rattle.bound_tree.specs.declared.gap.GapKind.{GapKind}
 use Rattle.bound_tree.specs.declared.gap.GapKind.TheVariants.{Closed, Waiting}
 use Rattle.bound_tree.specs.declared.gap.Numbers.{Numbers}
@@ -36,6 +36,7 @@ kind_text q (Closed (Mean bound)) = ap (λ (x : List ℕ). x ++ 10 ∷ []) (join
 kind_text q (Closed (Tangent bound reference)) = referring_text (codes "T") bound q reference
 kind_text q (Closed (Edge bound)) = ap (λ (x : List ℕ). x ++ 10 ∷ []) (join-fields (codes "E") (decimal bound ∷ numbers q)) ∙ simp (append_assoc)
 kind_text q (Closed (Exchange bound u)) = referring_text (codes "X") bound q (u ∷ [])
+kind_text q (Closed (TwoLooks bound)) = ap (λ (x : List ℕ). x ++ 10 ∷ []) (join-fields (codes "D") (decimal bound ∷ numbers q)) ∙ simp (append_assoc)
 kind_text q (Waiting n) = ap (λ (x : List ℕ). x ++ 10 ∷ []) (join-fields (codes "O") (decimal n ∷ numbers q)) ∙ simp (append_assoc)
 
 -- the parts of the lines before the records

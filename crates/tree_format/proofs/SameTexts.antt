@@ -5,7 +5,7 @@ use Rattle.search_model.specs.Problem.{Problem, position_name}
 use Rattle.search_model.specs.Same.{AreSame}
 use Rattle.search_model.specs.Names.{name_in}
 use Rattle.bound_tree.specs.declared.node.Kind.{Kind}
-use Rattle.bound_tree.specs.declared.node.Kind.TheVariants.{Branch, Whole, Mean, Tangent, Edge, Exchange}
+use Rattle.bound_tree.specs.declared.node.Kind.TheVariants.{Branch, Whole, Mean, Tangent, Edge, Exchange, TwoLooks}
 use Rattle.bound_tree.specs.declared.node.TreeNode.{TreeNode}
 use Rattle.bound_tree.specs.declared.plan.Plan.{Plan}
 use Rattle.bound_tree.specs.declared.gap.GapPlan.{GapPlan}
@@ -29,6 +29,7 @@ module _ (p o : Problem) (same : AreSame p o) where
   kind_same (Tangent b reference) printable = (places_same reference printable.0, printable.1 ∙ same.horizon)
   kind_same (Edge b) printable = printable
   kind_same (Exchange b u) printable = rw (← same.positions) printable
+  kind_same (TwoLooks b) printable = printable
 
   record_same : (r : TreeNode) → IsPrintableRecord p r → IsPrintableRecord o r
   record_same r printable = record { positions = places_same r.prefix printable.positions; short = rw (← same.horizon) printable.short; kind = kind_same r.kind printable.kind }

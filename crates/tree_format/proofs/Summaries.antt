@@ -26,7 +26,7 @@ use Rattle.tree_format.specs.declared.plan_line.Prefixes.TheVariants.{Written, L
 use Rattle.tree_format.specs.declared.plan_line.Dialect.TheVariants.{PlanOne, PlanTwo, PlanThree, GapOne, GapTwo}
 use Rattle.tree_format.specs.Dialects.{family_of, dialects_of, word_of, version_of, most_records, prefixes_in}
 use Rattle.tree_format.specs.declared.record_lines.Numbered.{Numbered}
-use Rattle.tree_format.specs.declared.record_lines.Numbered.TheVariants.{Whole, Mean, Tangent, Edge, Exchange, Waiting}
+use Rattle.tree_format.specs.declared.record_lines.Numbered.TheVariants.{Whole, Mean, Tangent, Edge, Exchange, TwoLooks, Waiting}
 use Rattle.tree_format.specs.Letters.{all_numbered, letter_for, referred, kind_among, numbered_by}
 use Rattle.tree_format.proofs.Letters.{letter_short}
 use Rattle.tree_format.specs.declared.plan_line.Stage.{Stage}
@@ -202,6 +202,7 @@ module _ (p : Problem) (h : IsProblem p) where
   few_referred Tangent = h.horizon.1
   few_referred Edge = omega arith
   few_referred Exchange = omega arith
+  few_referred TwoLooks = omega arith
   few_referred Waiting = omega arith
 
   no_numbered : (most : ℕ) → most ≤ 32 → (kind : Option Numbered) (fs : List (List ℕ)) → 66 ≤ length fs → numbered_line p most kind fs ≡ Err BadLine

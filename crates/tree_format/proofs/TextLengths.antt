@@ -9,7 +9,7 @@ use Rattle.text_rows.specs.Rows.{text_of, spaced}
 use Rattle.text_rows.proofs.RowLemmas.{join-fields, text_of-append, spaced_short}
 use Rattle.search_model.specs.Names.{IsName}
 use Rattle.search_model.specs.Problem.{Problem, IsProblem, position_name}
-use Rattle.bound_tree.specs.declared.node.Kind.TheVariants.{Branch, Whole, Mean, Tangent, Edge, Exchange}
+use Rattle.bound_tree.specs.declared.node.Kind.TheVariants.{Branch, Whole, Mean, Tangent, Edge, Exchange, TwoLooks}
 use Rattle.bound_tree.specs.declared.gap.GapKind.{GapKind}
 use Rattle.bound_tree.specs.declared.gap.GapKind.TheVariants.{Closed, Waiting}
 use Rattle.bound_tree.specs.declared.gap.GapNode.{GapNode}
@@ -38,6 +38,7 @@ bound_short (Closed (Mean b)) narrow = number_short b narrow
 bound_short (Closed (Tangent b reference)) narrow = number_short b narrow
 bound_short (Closed (Edge b)) narrow = number_short b narrow
 bound_short (Closed (Exchange b u)) narrow = number_short b narrow
+bound_short (Closed (TwoLooks b)) narrow = number_short b narrow
 bound_short (Waiting n) narrow = number_short n narrow
 
 chance_short : (value weight : ℕ) → value < 2 ^ 128 → weight < 2 ^ 128 → length (text_of (chance_row value weight ∷ [])) ≤ 87
@@ -82,6 +83,7 @@ module _ (p : Problem) (sound : IsProblem p) where
   reference_short (Closed (Exchange b u)) printable =
       let P : ℕ → Type 0 = λ a. a < p.positions in
       numbers_short (u ∷ []) (All-cons P u [] printable (All-nil P)) (omega arith)
+  reference_short (Closed (TwoLooks b)) printable = omega arith
   reference_short (Waiting n) printable = omega arith
 
   -- a record: its letter, a number, two lists of positions, and the line feed

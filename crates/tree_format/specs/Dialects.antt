@@ -60,7 +60,7 @@ has_edges PlanThree = true
 has_edges GapOne = true
 has_edges GapTwo = true
 
--- whether it has the letter `X`
+-- whether it has the letters `X` and `D`
 abbrev pub has_exchanges : Dialect → Bool
 has_exchanges PlanOne = false
 has_exchanges PlanTwo = false

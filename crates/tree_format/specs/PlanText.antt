@@ -8,7 +8,7 @@ use Rattle.text_rows.specs.Rows.{text_of}
 use Rattle.search_model.specs.declared.standing.Standing.{Standing}
 use Rattle.search_model.specs.Problem.{Problem, position_name}
 use Rattle.bound_tree.specs.declared.node.Kind.{Kind}
-use Rattle.bound_tree.specs.declared.node.Kind.TheVariants.{Branch, Whole, Mean, Tangent, Edge, Exchange}
+use Rattle.bound_tree.specs.declared.node.Kind.TheVariants.{Branch, Whole, Mean, Tangent, Edge, Exchange, TwoLooks}
 use Rattle.bound_tree.specs.declared.node.TreeNode.{TreeNode}
 use Rattle.bound_tree.specs.declared.plan.Plan.{Plan}
 use Rattle.bound_tree.specs.declared.gap.GapKind.{GapKind}
@@ -37,6 +37,7 @@ kind_fields q (Mean bound) = codes "M" ∷ decimal bound ∷ numbers q
 kind_fields q (Tangent bound reference) = codes "T" ∷ decimal bound ∷ (numbers q ++ numbers reference)
 kind_fields q (Edge bound) = codes "E" ∷ decimal bound ∷ numbers q
 kind_fields q (Exchange bound u) = codes "X" ∷ decimal bound ∷ (numbers q ++ decimal u ∷ [])
+kind_fields q (TwoLooks bound) = codes "D" ∷ decimal bound ∷ numbers q
 
 -- a node that waits has its number as a bound
 abbrev pub node_fields : List ℕ → GapKind → List (List ℕ)
@@ -101,6 +102,7 @@ IsPrintableKind p (Mean bound) = Unit {0}
 IsPrintableKind p (Tangent bound reference) = ArePositions p reference × (length reference ≡ p.horizon)
 IsPrintableKind p (Edge bound) = Unit {0}
 IsPrintableKind p (Exchange bound u) = u < p.positions
+IsPrintableKind p (TwoLooks bound) = Unit {0}
 
 -- a record whose prefix is within the horizon
 pub record IsPrintableRecord (p : Problem) (r : TreeNode) : Type 0 where
@@ -124,6 +126,7 @@ IsNarrowKind (Mean bound) = bound < 2 ^ 128
 IsNarrowKind (Tangent bound reference) = bound < 2 ^ 128
 IsNarrowKind (Edge bound) = bound < 2 ^ 128
 IsNarrowKind (Exchange bound u) = bound < 2 ^ 128
+IsNarrowKind (TwoLooks bound) = bound < 2 ^ 128
 
 pub record IsNarrow (plan : Plan) : Type 0 where
   pub value : plan.standing.value < 2 ^ 128
@@ -138,6 +141,7 @@ HasLetter v (Mean bound) = Unit {0}
 HasLetter v (Tangent bound reference) = Unit {0}
 HasLetter v (Edge bound) = has_edges v ≡ true
 HasLetter v (Exchange bound u) = has_exchanges v ≡ true
+HasLetter v (TwoLooks bound) = has_exchanges v ≡ true
 
 -- and for nodes of this kind
 abbrev pub HasNodeLetter : Dialect → GapKind → Type 0

@@ -51,7 +51,7 @@ pub fn has_edges(dialect: Dialect) -> bool
     }
 }
 
-/// Whether it may have records of exchanges.
+/// Whether it may have records of exchanges, and of bounds that remember two looks.
 pub fn has_exchanges(dialect: Dialect) -> bool
     ensures { result ≡ has_exchanges_lem dialect }
 {

@@ -52,7 +52,7 @@ fn has_letter(dialect: Dialect, kind: &Kind) -> bool
     match kind {
         Kind::Branch | Kind::Whole(_) | Kind::Mean(_) | Kind::Tangent(..) => true,
         Kind::Edge(_) => has_edges(dialect),
-        Kind::Exchange(..) => has_exchanges(dialect),
+        Kind::Exchange(..) | Kind::TwoLooks(_) => has_exchanges(dialect),
     }
 }
 

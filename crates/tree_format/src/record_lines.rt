@@ -32,6 +32,8 @@ pub enum Numbered {
     Edge,
     /// `X`, behind whose prefix stands one position.
     Exchange,
+    /// `D`
+    TwoLooks,
     /// `O`
     Waiting,
 }
@@ -127,7 +129,11 @@ fn referred(sc: &Scenario, numbered: Numbered) -> usize
     match numbered {
         Numbered::Tangent => sc.horizon() as usize,
         Numbered::Exchange => 1,
-        Numbered::Whole | Numbered::Mean | Numbered::Edge | Numbered::Waiting => 0,
+        Numbered::Whole
+        | Numbered::Mean
+        | Numbered::Edge
+        | Numbered::TwoLooks
+        | Numbered::Waiting => 0,
     }
 }
 
@@ -151,6 +157,7 @@ fn kind_with(numbered: Numbered, bound: u128, reference: &Path) -> GapKind
         Numbered::Tangent => GapKind::Closed(Kind::Tangent(bound, *reference)),
         Numbered::Edge => GapKind::Closed(Kind::Edge(bound)),
         Numbered::Exchange => GapKind::Closed(Kind::Exchange(bound, only_of(reference))),
+        Numbered::TwoLooks => GapKind::Closed(Kind::TwoLooks(bound)),
         Numbered::Waiting => GapKind::Waiting(bound),
     }
 }
@@ -186,6 +193,7 @@ fn numbered_by(dialect: Dialect, letter: &[u8]) -> Option<Numbered>
         b"T" => Some(Numbered::Tangent),
         b"E" if has_edges(dialect) => Some(Numbered::Edge),
         b"X" if has_exchanges(dialect) => Some(Numbered::Exchange),
+        b"D" if has_exchanges(dialect) => Some(Numbered::TwoLooks),
         b"O" if has_open(dialect) => Some(Numbered::Waiting),
         _ => None,
     }

@@ -27,6 +27,7 @@ fn letter(kind: &GapKind) -> u8
         GapKind::Closed(Kind::Tangent(_, _)) => b'T',
         GapKind::Closed(Kind::Edge(_)) => b'E',
         GapKind::Closed(Kind::Exchange(..)) => b'X',
+        GapKind::Closed(Kind::TwoLooks(_)) => b'D',
         GapKind::Waiting(_) => b'O',
     }
 }
@@ -44,7 +45,8 @@ fn push_bound(out: &mut Vec<u8>, kind: &GapKind) -> Result<(), NoMemory>
             | Kind::Mean(n)
             | Kind::Tangent(n, _)
             | Kind::Edge(n)
-            | Kind::Exchange(n, _),
+            | Kind::Exchange(n, _)
+            | Kind::TwoLooks(n),
         ) => push_field(out, Field::Number(*n)),
         GapKind::Waiting(n) => push_field(out, Field::Number(*n)),
     }
@@ -58,7 +60,9 @@ fn push_reference(out: &mut Vec<u8>, kind: &GapKind) -> Result<(), NoMemory>
     match kind {
         GapKind::Closed(Kind::Tangent(_, reference)) => push_positions(out, reference.cells()),
         GapKind::Closed(Kind::Exchange(_, u)) => push_positions(out, &[*u]),
-        GapKind::Closed(Kind::Branch | Kind::Whole(_) | Kind::Mean(_) | Kind::Edge(_)) => Ok(()),
+        GapKind::Closed(
+            Kind::Branch | Kind::Whole(_) | Kind::Mean(_) | Kind::Edge(_) | Kind::TwoLooks(_),
+        ) => Ok(()),
         GapKind::Waiting(_) => Ok(()),
     }
 }
