@@ -88,6 +88,8 @@ def about_whole(sc, plan, line):
     if letter == b"X" and len(prefix) < sc.horizon:
         asks = f"an exchange asks for {verdict.EXCHANGES_FROM} periods or more, and for a prefix of 2 positions or more"
         return f"{asks}: here the horizon is {quoting.counted(sc.horizon, 'period')}, and the prefix has {quoting.counted(len(prefix), 'position')}"
+    if letter == b"D" and len(prefix) < sc.horizon:
+        return f"a two-look bound asks for {verdict.TWO_LOOKS_FROM} periods or more: here the horizon is {quoting.counted(sc.horizon, 'period')}"
     if letter != b"W":
         return f"{RECORDS[letter]} stands at {path_of(sc, prefix)}, which is a whole path: it takes a record W with its value"
     if len(prefix) != sc.horizon:

@@ -5,8 +5,8 @@ from desk import paths
 
 # How many looks the bound of a letter remembers: the mean bound, the edge bound, and the two-look bound.
 MEMORIES = {b"M": 0, b"E": 1, b"D": 2}
-# From so many periods on prefixes are asked for one that stands in for them.
-EXCHANGES_FROM = 4
+# From so many periods on prefixes are asked for one that stands in for them, and for their two-look bound.
+EXCHANGES_FROM = TWO_LOOKS_FROM = 4
 
 
 def greatest(sc, position, rewards):
@@ -193,7 +193,7 @@ def reason(sc, plan, letter, bound, prefix, reference):
         return "WholeWrong"
     if letter == b"W":
         return "NotCut" if bound > plan.value or bound == plan.value and prefix < plan.path else None
-    if letter == b"X" and not has_exchanges(sc, prefix):
+    if letter == b"X" and not has_exchanges(sc, prefix) or letter == b"D" and sc.horizon < TWO_LOOKS_FROM:
         return "WholeWrong"
     if letter == b"T" and not has_one_rate(sc):
         return "NoOneRate"
