@@ -1,12 +1,15 @@
--- The levels of a prefix, one look more.
-use Rattle.std.proofs.Common.{ℕ, ◌+◌, ◌-◌, ◌<◌, ◌≤◌, ◌≡◌, false, List, [], ◌∷◌, ◌++◌, length, take, set, slice_index, slice_index_or, arith, inl, inr, ap, ◌∙◌, subst, get_or-set_same, get_or-set_other, length-set, length-append, All}
+-- The levels of a prefix, one look more, and what they are to another prefix by what both have in common.
+use Rattle.std.proofs.Common.{ℕ, ◌+◌, ◌-◌, ◌<◌, ◌≤◌, ◌≡◌, ◌==◌, false, List, [], ◌∷◌, ◌++◌, length, take, set, slice_index, slice_index_or, get_or, arith, inl, inr, ap, sym, ◌∙◌, subst, get_or-set_same, get_or-set_other, length-set, length-append, All}
 use Rattle.std.proofs.lemmas.Bool.{cases_lt}
-use Rattle.std.proofs.lemmas.List.{set-append_right, get_or_append_left, get_or-append-add, get_or_default}
+use Rattle.std.proofs.lemmas.List.{set-append_right, get_or_append_left, get_or-append-add, get_or_default, length-take-le, take_all}
 use Rattle.std.proofs.lemmas.List.Elements.{All-set}
+use Rattle.std.proofs.lemmas.List.Sums.{common_prefix_len-le}
 use Rattle.search_model.specs.Problem.{Problem}
 use Rattle.belief_update.specs.Onward.{OnwardState, IsMadeFor, IsOnward}
 use Rattle.belief_update.specs.Levels.{AreLevels, level_at}
-use Rattle.belief_update.proofs.TrailSteps.{front_more, shorter_front}
+use Rattle.belief_update.specs.Taken.{TakenState, IsTaken, IsTakenTo}
+use Rattle.belief_update.specs.Trails.{common_of}
+use Rattle.belief_update.proofs.TrailSteps.{front_more, shorter_front, common_front}
 
 -- no level
 abbrev none : OnwardState
@@ -49,3 +52,26 @@ pub level_behind : (p : Problem) (levels front back : List OnwardState) (d : Onw
 level_behind p levels front back d parts some made =
     subst (IsMadeFor p) (ap (λ (xs : List OnwardState). slice_index_or xs (length front + 0) d) parts ∙ get_or-append-add front back 0 d)
     (made (length front + 0) d (omega (arith, ap length parts, length-append front back, some)))
+
+-- what both have in common is a part of each
+pub common_within : (old q : List ℕ) (same : ℕ) → same ≡ common_of old q → (same ≤ length old) × (same ≤ length q)
+common_within old q same is =
+    let le = common_prefix_len-le (λ a b. a == b) old q in
+    (omega (arith, is, le.0), omega (arith, is, le.1))
+
+-- the level that is read is that of what both have in common
+pub common_level : (p : Problem) (old q : List ℕ) (same : ℕ) (levels : List OnwardState) (o : OnwardState) → same ≡ common_of old q → length old < p.horizon → AreLevels p old (length old) levels → o ≡ get_or levels same o → IsOnward p (take same q) o
+common_level p old q same levels o is short are read =
+    let few = (common_within old q same is).0 in
+    let inside : same < p.horizon = omega (arith, few, short) in
+    let there : same < length levels = omega (arith, are.size, inside) in
+    let shared = levels_shared p old q (common_of old q) (length old) levels (common_prefix_len-le (λ a b. a == b) old q).0 (common_front old q) are in
+    let value = get_or_default levels same (record { belief = record { period = 0; looked = false; masses = [] }; rows = []; value = 0 }) o there ∙ sym read in
+    subst (IsOnward p (take same q)) value (shared.after same (omega (arith, is)) inside)
+
+-- what the looks of a prefix after its first k took
+pub all_taken : (p : Problem) (q : List ℕ) (k looks : ℕ) (s : TakenState) → looks ≡ length q → k ≤ length q → (k ≡ looks → ⊥) → IsTakenTo p (take k q) q looks s → IsTaken p (take k q) q s
+all_taken p q k looks s whole inside fewer to =
+    let long : length (take k q) ≡ k = length-take-le k q inside in
+    let all : take looks q ≡ q = take_all looks q (omega (arith, whole)) in
+    subst (λ (r : List ℕ). IsTaken p (take k q) r s) all (to.taken (omega (arith, long, inside, whole, fewer)))

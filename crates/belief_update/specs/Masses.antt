@@ -1,5 +1,5 @@
 -- Masses: the weight of the target in each cell in a period, as far as the looks so far missed it (Eagle 1984).
-use Rattle.std.specs.Prelude.{ℕ, ◌+◌, ◌*◌, ◌-◌, List, [], ◌∷◌, ◌++◌, Option, Some, None, map, length, replicate, sum_by}
+use Rattle.std.specs.Prelude.{ℕ, ◌≡◌, ◌<◌, ◌+◌, ◌*◌, ◌-◌, List, [], ◌∷◌, ◌++◌, Option, Some, None, map, length, replicate, slice_index, sum_by}
 use Rattle.std.specs.List.{range_with_len}
 use Rattle.sweep_table.specs.LookParts.{factor_of}
 use Rattle.search_model.specs.Problem.{Problem}
@@ -24,3 +24,7 @@ masses_of p looks = map (mass_of p looks) (range_with_len 0 p.cells)
 -- the looks of a prefix, and none after them up to period t
 abbrev pub looks_to : ℕ → List ℕ → List (Option ℕ)
 looks_to t q = map Some q ++ replicate (t - length q) None
+
+-- the masses of all cells behind a prefix, in the period after it and before the look of that period
+abbrev pub AreBehind : Problem → List ℕ → List ℕ → Type 0
+AreBehind p q masses = (c : ℕ) → c < p.cells → slice_index masses c ≡ mass_of p (looks_to (length q + 1) q) c

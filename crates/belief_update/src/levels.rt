@@ -6,6 +6,7 @@ ghost use Rattle.search_model.specs.Legal.{IsLegal};
 ghost use Rattle.search_model.specs.Tracks.{value_of};
 ghost use Rattle.belief_update.specs.Onward.{IsMadeFor, IsOnward};
 ghost use Rattle.belief_update.specs.Levels.{AreLevels, AreLevelsOf};
+ghost use Rattle.belief_update.specs.Masses.{AreBehind};
 ghost use Rattle.belief_update.specs.Flows.{AreFlows, HasOwnFlow};
 
 use crate::along::take_along;
@@ -151,6 +152,35 @@ fn value_from(taken: &mut Taken, sc: &Scenario, onward: &Onward, prefix: &Path, 
     taken.value(sc, onward.value(), looks)
 }
 
+// Writes the masses behind a prefix, by what its looks after the first `k` take of the level of so many.
+fn leave_behind(
+    left: &mut [u128],
+    taken: &mut Taken,
+    sc: &Scenario,
+    onward: &Onward,
+    prefix: &Path,
+    k: u32,
+)
+    requires width { length left.old ≡ sc.now.cells }
+    requires room { length taken.old.masses ≡ sc.now.cells }
+    requires legal { IsLegal sc.now prefix.now }
+    requires short { length prefix.now < sc.now.horizon }
+    requires inside { k ≤ length prefix.now }
+    requires onward { IsOnward sc.now (take k prefix.now) onward.now }
+    ensures each { AreBehind sc.now prefix.now left.new }
+    ensures room { length taken.new.masses ≡ sc.now.cells }
+{
+    let looks = prefix.len() as u32;
+    let ahead = onward.at(looks + 1);
+    if k == looks {
+        left.copy_from_slice(ahead.masses());
+        return;
+    }
+    take_along(sc, taken, onward, prefix, k, looks);
+    taken.drift(sc);
+    taken.leave(sc, ahead, left);
+}
+
 impl Levels {
     /// The levels of the empty prefix. Only this call takes memory.
     pub fn tables(alloc: Global, sc: &Scenario) -> Result<Levels, NoMemory>
@@ -201,6 +231,22 @@ impl Levels {
         let same = in_common(self.prefix.cells(), prefix.cells());
         let onward = &self.levels[same];
         value_from(&mut self.taken, sc, onward, prefix, same as u32)
+    }
+
+    /// Writes the masses behind a legal prefix that is shorter than the horizon, in the period after it, by the level of what
+    /// it has in common with the levels' own, which stays.
+    pub fn masses_behind(&mut self, sc: &Scenario, prefix: &Path, masses: &mut [u128])
+        requires made { AreLevelsOf sc.now self.old }
+        requires legal { IsLegal sc.now prefix.now }
+        requires short { length prefix.now < sc.now.horizon }
+        requires width { length masses.old ≡ sc.now.cells }
+        ensures each { AreBehind sc.now prefix.now masses.new }
+        ensures made { AreLevelsOf sc.now self.new }
+        ensures prefix { self.new.prefix ≡ self.old.prefix }
+    {
+        let same = in_common(self.prefix.cells(), prefix.cells());
+        let onward = &self.levels[same];
+        leave_behind(masses, &mut self.taken, sc, onward, prefix, same as u32);
     }
 
     /// The beliefs of the periods after the prefix.

@@ -236,6 +236,18 @@ impl Taken {
         without.at(c) * self.scale - taken[c as usize]
     }
 
+    /// Writes the masses of all cells with the looks, by the belief without them.
+    pub fn leave(&self, sc: &Scenario, without: &Belief, left: &mut [u128])
+        requires width { length left.old ≡ sc.now.cells }
+        requires beside { IsBesideSome sc.now without.now self.now }
+        ensures { (q r : List ℕ) → IsBeside sc.now q r without.now self.now → (c : ℕ) → c < sc.now.cells →
+            slice_index left.new c ≡ mass_of sc.now (looks_to self.now.period r) c }
+    {
+        for c in 0..sc.cells() {
+            left[usize::from(c)] = self.mass(sc, without, c);
+        }
+    }
+
     /// The value of a prefix with all its looks, in parts of the whole weight, by the value of the prefix without them.
     pub fn value(&self, sc: &Scenario, value: u128, looks: u32) -> u128
         requires taken { (q : List ℕ) × (r : List ℕ) × IsTaken sc.now q r self.now × (value ≡ value_of sc.now q)

@@ -7,6 +7,7 @@ ghost use Rattle.search_model.specs.Tracks.{value_of};
 ghost use Rattle.search_model.specs.Bounds.{mean_of, reward_of};
 ghost use Rattle.longest_walk.specs.Near.{AreNear};
 ghost use Rattle.longest_walk.specs.Tables.{IsFilledNear};
+ghost use Rattle.belief_update.specs.Masses.{AreBehind};
 ghost use Rattle.belief_update.specs.Trails.{IsPast};
 ghost use Rattle.belief_update.specs.Onward.{IsOnward};
 ghost use Rattle.mean_bound.specs.Rewards.{HasRewards};
@@ -155,6 +156,21 @@ impl Mean {
         ensures filled { (q : List ℕ) → IsFilledFor sc.now q self.old → IsFilledFor sc.now q self.new }
     {
         self.levels.value(sc, prefix)
+    }
+
+    /// Writes the masses behind a legal prefix that is shorter than the horizon, in the period after it. The rewards stay those
+    /// of the last prefix that was bounded, and so do the beliefs of `onward`.
+    pub fn masses_behind(&mut self, sc: &Scenario, prefix: &Path, masses: &mut [u128])
+        requires made { IsMadeFor sc.now self.old }
+        requires legal { IsLegal sc.now prefix.now }
+        requires short { length prefix.now < sc.now.horizon }
+        requires width { length masses.old ≡ sc.now.cells }
+        ensures each { AreBehind sc.now prefix.now masses.new }
+        ensures made { IsMadeFor sc.now self.new }
+        ensures there { (q : List ℕ) → IsAlong q self.old → IsAlong q self.new }
+        ensures filled { (q : List ℕ) → IsFilledFor sc.now q self.old → IsFilledFor sc.now q self.new }
+    {
+        self.levels.masses_behind(sc, prefix, masses);
     }
 
     /// The beliefs of the periods after the prefix that the tables are along, with no look after it.

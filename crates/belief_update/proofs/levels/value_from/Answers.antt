@@ -1,16 +1,8 @@
-use Rattle.std.proofs.Common.{ℕ, ◌≡◌, ◌≤◌, List, length, take, ap, subst, sym, ◌∙◌, arith}
-use Rattle.std.proofs.lemmas.List.{length-take-le, take_all}
-use Rattle.search_model.specs.Problem.{Problem}
+use Rattle.std.proofs.Common.{◌≡◌, take, ap, sym, ◌∙◌, arith}
+use Rattle.std.proofs.lemmas.List.{take_all}
 use Rattle.search_model.specs.Tracks.{value_of}
-use Rattle.belief_update.specs.Taken.{TakenState, IsTaken, IsTakenTo}
+use Rattle.belief_update.proofs.LevelSteps.{all_taken}
 use Rattle.belief_update.proofs.levels.value_from.Goals as goal
-
--- what the looks of a prefix after its first k took
-all_taken : (p : Problem) (q : List ℕ) (k looks : ℕ) (s : TakenState) → looks ≡ length q → k ≤ length q → (k ≡ looks → ⊥) → IsTakenTo p (take k q) q looks s → IsTaken p (take k q) q s
-all_taken p q k looks s whole inside fewer to =
-    let long : length (take k q) ≡ k = length-take-le k q inside in
-    let all : take looks q ≡ q = take_all looks q (omega (arith, whole)) in
-    subst (λ (r : List ℕ). IsTaken p (take k q) r s) all (to.taken (omega (arith, long, inside, whole, fewer)))
 
 pub returns-then-k-looks-clause-value : goal.returns-then-k-looks-clause-value
 returns-then-k-looks-clause-value c =
