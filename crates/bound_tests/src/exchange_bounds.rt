@@ -33,8 +33,8 @@ fn is_exchanged(
         return false;
     }
     mean.go_to(sc, prefix);
-    let is = tables.bound(sc, mean.near(), mean.onward(), prefix, other);
-    is == bound && tables.value(sc, other) == value
+    let is = tables.bound(sc, mean, prefix, other);
+    is == bound && mean.value(sc, other) == value
 }
 
 // Whether prefixes have their exchange bounds, one asked after the other.
@@ -86,10 +86,7 @@ fn is_replaced(
         return false;
     }
     mean.go_to(sc, prefix);
-    match (
-        tables.best_stand_in(sc, mean.near(), mean.onward(), prefix),
-        by,
-    ) {
+    match (tables.best_stand_in(sc, mean, prefix), by) {
         (None, None) => true,
         (Some(is), Some((position, value, bound))) => {
             is.position == *position && is.value == *value && is.bound == *bound

@@ -10,7 +10,7 @@ use Rattle.search_model.proofs.Behind.{mean_rewards_are}
 use Rattle.search_model.proofs.LookRows.{found_in_cells}
 use Rattle.search_model.proofs.MassRewards.{rewards_by_drift}
 use Rattle.list_laws.proofs.Sums.{sum_by-range-le, sum_by-range-part, sum_by-range-same}
-use Rattle.belief_update.specs.Masses.{mass_of, looks_to}
+use Rattle.belief_update.specs.Masses.{mass_of, looks_to, AreBehind}
 use Rattle.belief_update.specs.Belief.{BeliefState}
 use Rattle.belief_update.specs.Trails.{IsAhead}
 use Rattle.belief_update.specs.Found.{found_of}
@@ -56,11 +56,11 @@ module _ (p : Problem) (q r : List ℕ) where
       omega (arith, less, mean_rewards_are p q t a sound later last, reward-le p sound q t a later last)
 
   -- the lead begins with the differences of the masses ahead
-  pub lead_starts : (a b : BeliefState) (masses : List ℕ) → length r ≡ length q → IsAhead p q a → IsAhead p r b → length masses ≡ p.cells →
-      ((c : ℕ) → c < p.cells → slice_index masses c ≡ slice_index a.masses c - slice_index b.masses c) →
+  pub lead_starts : (a : BeliefState) (others masses : List ℕ) → length r ≡ length q → IsAhead p q a → AreBehind p r others → length masses ≡ p.cells →
+      ((c : ℕ) → c < p.cells → slice_index masses c ≡ slice_index a.masses c - slice_index others c) →
       IsLead p q r (record { period = a.period; masses = masses })
   unfolding lead_of drifted
-  lead_starts a b masses long ahead other size each =
+  lead_starts a others masses long ahead behind size each =
       let period : a.period ≡ length q + 1 = sym ahead.periods ∙ length-looks_to (length q + 1) q (omega arith) in
       let none : a.period - (length q + 1) ≡ 0 = omega (arith, period) in
       record {
@@ -69,7 +69,7 @@ module _ (p : Problem) (q r : List ℕ) where
         cells = size;
         each = λ c lt.
             let of_q = mass_at p (looks_to (length q + 1) q) a ahead c lt ∙ masses_forward p q (length q + 1) c (omega arith) in
-            let of_r = mass_at p (looks_to (length r + 1) r) b other c lt ∙ masses_forward p r (length r + 1) c (omega arith) in
+            let of_r = behind c lt ∙ masses_forward p r (length r + 1) c (omega arith) in
             rw (each c lt, of_q, of_r, none) refl;
       }
 

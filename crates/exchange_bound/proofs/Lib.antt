@@ -1,2 +1,3 @@
 pub mod Leads
+pub mod Candidates
 pub mod StandIns

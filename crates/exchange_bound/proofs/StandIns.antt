@@ -1,43 +1,57 @@
 -- Prefixes with another position in place of their last but one: when they stand in, and which is the best.
-use Rattle.std.proofs.Common.{ℕ, suc, ◌-◌, ◌<◌, ◌≤◌, ◌≡◌, ◌≢◌, List, [], ◌∷◌, ◌++◌, Option, Some, None, length, take, slice_index, inl, inr, true, refl, sym, ap, subst, ◌∙◌, arith, IsTrue, IfSome, IfNone, Contains, length-append, append_assoc, ltb-true, eqb-true}
-use Rattle.std.proofs.lemmas.Bool.{or_cases, and_parts}
-use Rattle.std.proofs.lemmas.List.{length-take-le, get_or_default}
+use Rattle.std.proofs.Common.{ℕ, ◌-◌, ◌<◌, ◌≤◌, ◌≡◌, ◌≢◌, List, [], ◌∷◌, length, take, slice_index, inl, inr, true, false, refl, sym, ap, subst, ◌∙◌, arith, IsTrue, Contains}
+use Rattle.std.proofs.lemmas.Bool.{true≢false}
 use Rattle.search_model.specs.Problem.{Problem}
-use Rattle.search_model.specs.Legal.{IsLegal, last_of, moves_after}
+use Rattle.search_model.specs.Legal.{IsLegal, moves_after}
 use Rattle.search_model.specs.Tracks.{value_of}
 use Rattle.search_model.specs.Exchange.{exchange_of}
 use Rattle.search_model.specs.Order.{better, standing_of}
-use Rattle.search_model.proofs.LegalLemmas.{last_of-push}
 use Rattle.search_model.proofs.Orders.{better_by_value, better_by_path, smaller_at}
-use Rattle.search_model.proofs.WalkLemmas.{follows-append}
 use Rattle.bound_tree.specs.Cut.{is_cut}
 use Rattle.bound_tree.specs.Exchanges.{StandsIn, IsBestStandIn, exchanged}
 use Rattle.bound_tree.proofs.StandIns.{exchanged-stands, exchanged-move}
+use Rattle.bound_tree.proofs.Longer.{uncut_above}
 use Rattle.exchange_bound.specs.declared.stand_in.Exchange.{Exchange}
-use Rattle.exchange_bound.specs.StandIns.{IsExchange, Precedes, Yields, NonePrecedes}
+use Rattle.exchange_bound.specs.declared.stand_in.Candidate.{Candidate}
+use Rattle.exchange_bound.specs.StandIns.{IsExchange, IsCandidate, AreCandidates, AreLeft, Precedes, Yields, candidate_of}
 
--- no value goes before itself
-pub yields-itself : (e : Exchange) → Yields e.value e.position (Some e)
-yields-itself e = inr (refl, omega arith)
+-- no candidate goes before itself
+pub yields-itself : (a : Candidate) → Yields a a
+yields-itself a = inr (refl, omega arith)
 
--- what doesn't go before an exchange doesn't go before one that does
-pub yields-on : (e : Exchange) (v u : ℕ) (best : Option Exchange) → Precedes e.value e.position best → Yields v u best → Yields v u (Some e)
-yields-on e v u None first none = absurd none
-yields-on e v u (Some b) (inl more) (inl less) = inl (omega (arith, more, less))
-yields-on e v u (Some b) (inl more) (inr (same, after)) = inl (omega (arith, more, same))
-yields-on e v u (Some b) (inr (level, first)) (inl less) = inl (omega (arith, level, less))
-yields-on e v u (Some b) (inr (level, first)) (inr (same, after)) = inr (same ∙ sym level, omega (arith, first, after))
+-- what doesn't go before a candidate doesn't go before one that does
+pub yields-on : (a b c : Candidate) → Precedes c b → Yields a b → Yields a c
+yields-on a b c (inl more) (inl less) = inl (omega (arith, more, less))
+yields-on a b c (inl more) (inr (same, after)) = inl (omega (arith, more, same))
+yields-on a b c (inr (level, first)) (inl less) = inl (omega (arith, level, less))
+yields-on a b c (inr (level, first)) (inr (same, after)) = inr (same ∙ sym level, omega (arith, first, after))
 
--- what doesn't go before an exchange is worse, if its position is another one
-pub worse : (p : Problem) (q : List ℕ) (e : Exchange) (v : ℕ) → IsExchange p q e → v ≢ e.position → Yields (value_of p (exchanged v q)) v (Some e) →
-    IsTrue (better (standing_of p (exchanged e.position q)) (standing_of p (exchanged v q)))
-worse p q e v is other (inl less) =
-    better_by_value (standing_of p (exchanged e.position q)) (standing_of p (exchanged v q)) (omega (arith, less, is.value))
-worse p q e v is other (inr (same, after)) =
+-- what doesn't go before a candidate is worse, if its position is another one
+worse : (p : Problem) (q : List ℕ) (c : Candidate) (v : ℕ) → IsCandidate p q c → v ≢ c.position → Yields (candidate_of p q v) c →
+    IsTrue (better (standing_of p (exchanged c.position q)) (standing_of p (exchanged v q)))
+worse p q c v is other (inl less) =
+    better_by_value (standing_of p (exchanged c.position q)) (standing_of p (exchanged v q)) (omega (arith, less, is.value))
+worse p q c v is other (inr (same, after)) =
     let last = slice_index q (length q - 1) in
-    let less : e.position < v = omega (arith, after, other) in
-    better_by_path (standing_of p (exchanged e.position q)) (standing_of p (exchanged v q)) (sym is.value ∙ sym same)
-    (smaller_at (take (length q - 2) q) e.position v (last ∷ []) (last ∷ []) less)
+    let less : c.position < v = omega (arith, after, other) in
+    better_by_path (standing_of p (exchanged c.position q)) (standing_of p (exchanged v q)) (sym is.value ∙ sym same)
+    (smaller_at (take (length q - 2) q) c.position v (last ∷ []) (last ∷ []) less)
+
+-- so a candidate that stands in, and that none which stands in goes before, is the best
+pub exchange_is_best : (p : Problem) (q : List ℕ) (c : Candidate) (e : Exchange) → IsCandidate p q c → IsExchange p q e → e.position ≡ c.position → ((u : ℕ) → StandsIn p (exchanged u q) q → Yields (candidate_of p q u) c) →
+    IsBestStandIn p q e.position
+exchange_is_best p q c e is stands same yield =
+    subst (IsBestStandIn p q) (sym same) (record {
+      stands = subst (λ (u : ℕ). StandsIn p (exchanged u q) q) same stands.stands;
+      best = λ v other_stands other. worse p q c v is other (yield v other_stands);
+    })
+
+-- what doesn't cut the value of a prefix doesn't stand in for it
+pub value_uncut : (p : Problem) (q : List ℕ) (u : ℕ) (r : List ℕ) (value least : ℕ) → r ≡ exchanged u q → value ≡ value_of p r → least ≡ value_of p q → is_cut least q (record { path = r; value = value }) ≡ false → ¬ StandsIn p (exchanged u q) q
+value_uncut p q u r value least is worth low free stands =
+    let uncut : is_cut (value_of p q) q (standing_of p (exchanged u q)) ≡ false = rw (← is, ← low, ← worth) free in
+    let above = uncut_above (value_of p q) (exchange_of p q (exchanged u q)) q (standing_of p (exchanged u q)) (omega arith) uncut in
+    true≢false (sym stands.cut ∙ above)
 
 -- what is legal, with its value and the exchange bound that it cuts, is an exchange
 pub exchange_is : (p : Problem) (q : List ℕ) (u : ℕ) (other : List ℕ) (value bound : ℕ) → 2 ≤ length q → other ≡ exchanged u q → IsLegal p other → value ≡ value_of p other → bound ≡ exchange_of p q other →
@@ -51,26 +65,10 @@ exchange_is p q u other value bound long is legal worth found cut =
       bound = found ∙ ap (exchange_of p q) is;
     }
 
-module _ (p : Problem) (q : List ℕ) (long : 2 ≤ length q) (moves : List ℕ) (n : ℕ) (best : Option Exchange) (are : moves ≡ moves_after p (take (length q - 2) q)) (all : length moves ≤ n) (none : NonePrecedes p q moves n best) where
-  -- after all moves, nothing that stands in goes before the best exchange
-  pub all_yield : (u : ℕ) → StandsIn p (exchanged u q) q → Yields (value_of p (exchanged u q)) u best
-  all_yield u stands =
-      let (j, inside, is) = subst (λ (xs : List ℕ). Contains xs u) (sym are) (exchanged-move p q long u stands.legal) in
-      let here : slice_index moves j ≡ u = sym (get_or_default moves j u 0 inside) ∙ is in
-      subst (λ (v : ℕ). Yields (value_of p (exchanged v q)) v best) here
-      (none j (omega (arith, inside, all)) (subst (λ (v : ℕ). StandsIn p (exchanged v q) q) (sym here) stands))
-
--- so it is the best
-pub exchange_is_best : (p : Problem) (q : List ℕ) (e : Exchange) → IsExchange p q e → ((u : ℕ) → StandsIn p (exchanged u q) q → Yields (value_of p (exchanged u q)) u (Some e)) → IsBestStandIn p q e.position
-exchange_is_best p q e is yield = record { stands = is.stands; best = λ v stands other. worse p q e v is other (yield v stands) }
-
--- and the search for it ends with it, or with none
-pub best_found : (p : Problem) (q : List ℕ) (best : Option Exchange) → IfSome best (IsExchange p q) → ((u : ℕ) → StandsIn p (exchanged u q) q → Yields (value_of p (exchanged u q)) u best) →
-    IfSome best (λ e. IsExchange p q e × IsBestStandIn p q e.position)
-best_found p q None is yield = tt
-best_found p q (Some e) is yield = (is, exchange_is_best p q e is yield)
-
-pub none_found : (p : Problem) (q : List ℕ) (best : Option Exchange) → ((u : ℕ) → StandsIn p (exchanged u q) q → Yields (value_of p (exchanged u q)) u best) →
-    IfNone best ((u : ℕ) → ¬ StandsIn p (exchanged u q) q)
-none_found p q None yield = yield
-none_found p q (Some e) yield = tt
+-- the positions that were tried are all moves: so all that stand in are in the row
+pub all_left : (p : Problem) (q : List ℕ) (tried : List ℕ) (n : ℕ) (row : List Candidate) → 2 ≤ length q → tried ≡ moves_after p (take (length q - 2) q) → AreCandidates p q tried n row → AreLeft p q 0 n row
+all_left p q tried n row long are noted = record {
+  inside = noted.inside;
+  right = noted.right;
+  all = λ u stands. noted.all u (subst (λ (xs : List ℕ). Contains xs u) (sym are) (exchanged-move p q long u stands.legal)) stands;
+}

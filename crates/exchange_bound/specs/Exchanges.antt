@@ -2,20 +2,16 @@
 use Rattle.std.specs.Prelude.{ℕ, ◌≡◌, ◌*◌, List, length}
 use Rattle.search_model.specs.Problem.{Problem}
 use Rattle.longest_walk.specs.Tables.{Tables}
-use Rattle.belief_update.specs.Levels.{LevelsState, AreLevelsOf}
 use Rattle.exchange_bound.specs.Leads.{LeadState}
 
--- the beliefs after the other prefix and after each front of it, the lead over it, the rewards of looks for the lead, and
--- their walks
+-- the lead of a prefix over another, the rewards of looks for the lead, and their walks
 pub record ExchangeState : Type 0 where
-  pub levels : LevelsState
   pub lead : LeadState
   pub rewards : List ℕ
   pub walk : Tables
 
--- the tables are for this scenario, and the beliefs that they keep are right in it
+-- the tables are for this scenario
 pub record IsMadeFor (p : Problem) (e : ExchangeState) : Type 0 where
-  pub levels : AreLevelsOf p e.levels
   pub lead : length e.lead.masses ≡ p.cells
   pub size : length e.rewards ≡ p.horizon * p.positions
   pub positions : e.walk.positions ≡ p.positions

@@ -1,12 +1,14 @@
 //! The lead of a prefix over another, period by period.
 
 ghost use Rattle.std.specs.Prelude.{◌≡◌, ◌<◌, ◌+◌, ◌-◌, ℕ, List, length, slice_index, IfOk};
-ghost use Rattle.belief_update.specs.Trails.{IsAhead, IsAheadOfSome};
+ghost use Rattle.search_model.specs.Legal.{IsLegal};
+ghost use Rattle.mean_bound.specs.Means.{IsMadeFor as IsMeanFor, IsAlong, IsFilledFor};
 ghost use Rattle.exchange_bound.specs.Leads.{IsLead, IsSomeLead};
 
-use belief_update::{Belief, move_on};
+use belief_update::move_on;
 use exact_parts::NoMemory;
-use search_model::Scenario;
+use mean_bound::Mean;
+use search_model::{Path, Scenario};
 use std::alloc::Global;
 use std::marker::Model;
 
@@ -55,16 +57,23 @@ impl Lead {
         })
     }
 
-    /// Becomes the lead of a prefix over another as long, by the beliefs ahead of their next looks.
-    pub(crate) fn start(&mut self, sc: &Scenario, ahead: &Belief, other: &Belief)
+    /// Becomes the lead of a prefix over another as long, by the beliefs of the mean bound, which are along the prefix.
+    pub(crate) fn start(&mut self, sc: &Scenario, mean: &mut Mean, prefix: &Path, other: &Path)
         requires cells { length self.old.masses ≡ sc.now.cells }
-        requires ahead { IsAheadOfSome sc.now ahead.now }
-        requires other { IsAheadOfSome sc.now other.now }
-        ensures lead { (q r : List ℕ) → length r ≡ length q → IsAhead sc.now q ahead.now → IsAhead sc.now r other.now →
-            IsLead sc.now q r self.new }
-        ensures period { self.new.period ≡ ahead.now.period }
+        requires mean { IsMeanFor sc.now mean.old }
+        requires along { IsAlong prefix.now mean.old }
+        requires short { length prefix.now < sc.now.horizon }
+        requires other { IsLegal sc.now other.now }
+        requires long { length other.now ≡ length prefix.now }
+        ensures lead { IsLead sc.now prefix.now other.now self.new }
+        ensures period { self.new.period ≡ length prefix.now + 1 }
+        ensures mean { IsMeanFor sc.now mean.new }
+        ensures along { IsAlong prefix.now mean.new }
+        ensures filled { (q : List ℕ) → IsFilledFor sc.now q mean.old → IsFilledFor sc.now q mean.new }
     {
-        subtract(&mut self.masses, ahead.masses(), other.masses());
+        mean.masses_behind(sc, other, &mut self.next);
+        let ahead = mean.onward().at(prefix.len() as u32 + 1);
+        subtract(&mut self.masses, ahead.masses(), &self.next);
         self.period = ahead.period();
     }
 

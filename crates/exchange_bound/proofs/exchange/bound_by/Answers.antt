@@ -54,7 +54,7 @@ overflow_add-result c =
     let here = last_within p.moves sound.grid p.start (omega (arith, sound.start, sound.grid_positions)) q c.requires.legal.follows in
     let most = greatest-le p sound (length q) (lead_reward p q r) (lead_reward-le p q r sound) short (last_of p.start q) here in
     let fits = weights-fit p sound (p.horizon - length q) (omega arith) in
-    rw (greatest_now c r lead, c.value.ensures p q c.requires.onward) (omega (arith, most, fits))
+    rw (greatest_now c r lead, c.value.ensures p q (c.onward.ensures p q c.requires.mean c.requires.along)) (omega (arith, most, fits))
 
 pub returns-clause-bound : goal.returns-clause-bound
-returns-clause-bound c r lead = rw (c.value.ensures c.args.sc.now c.args.prefix.now c.requires.onward, greatest_now c r lead) refl
+returns-clause-bound c r lead = rw (c.value.ensures c.args.sc.now c.args.prefix.now (c.onward.ensures c.args.sc.now c.args.prefix.now c.requires.mean c.requires.along), greatest_now c r lead) refl
