@@ -116,9 +116,9 @@ fn close_by_exchange(scratch: &mut Scratch, sc: &Scenario, prefix: &Path) -> Opt
     if sc.horizon() < 4 || prefix.len() < 2 {
         return None;
     }
-    let near = scratch.mean.near();
-    let onward = scratch.mean.onward();
-    let found = scratch.exchange.best_stand_in(sc, near, onward, prefix)?;
+    let found = scratch
+        .exchange
+        .best_stand_in(sc, &mut scratch.mean, prefix)?;
     Some(Kind::Exchange(found.bound, found.position))
 }
 

@@ -172,7 +172,7 @@ pub(crate) fn exchange_reason(
     if !takes_place(sc, prefix, u, &other) {
         return Some(Why::ReferenceWrong);
     }
-    let value = tables.exchanged_value(sc, &other);
     let right = tables.exchange_bound(sc, prefix, &other);
+    let value = tables.value(sc, &other);
     bound_reason(&Standing { path: other, value }, prefix, bound, right)
 }

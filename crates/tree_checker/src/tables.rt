@@ -22,8 +22,7 @@ use tangent_bound::TangentTables;
 use two_look_bound::TwoLookTables;
 
 /// The tables of the bounds. All values and bounds go by what the mean bound keeps: the positions within reach, and the
-/// beliefs, of which a prefix uses those of the part that it has in common with the one before it. The tables of exchanges
-/// keep beliefs of their own after what may stand in for a prefix, so that those of the mean bound stay at the prefix.
+/// beliefs, of which a prefix uses those of the part that it has in common with the one before it.
 #[derive(Drop)]
 pub(crate) struct BoundTables {
     pub(crate) ceilings: Ceilings,
@@ -138,16 +137,6 @@ impl BoundTables {
         self.two_looks.bound(sc, near, onward, prefix)
     }
 
-    /// The value of a legal prefix that may stand in for another.
-    pub(crate) fn exchanged_value(&mut self, sc: &Scenario, other: &Path) -> u128
-        requires made { AreMadeFor sc.now self.old }
-        requires legal { IsLegal sc.now other.now }
-        ensures value { result ≡ value_of sc.now other.now }
-        ensures made { AreMadeFor sc.now self.new }
-    {
-        self.exchange.value(sc, other)
-    }
-
     /// The exchange bound of a legal prefix that is shorter than the horizon over another as long.
     pub(crate) fn exchange_bound(&mut self, sc: &Scenario, prefix: &Path, other: &Path) -> u128
         requires made { AreMadeFor sc.now self.old }
@@ -159,7 +148,7 @@ impl BoundTables {
         ensures made { AreMadeFor sc.now self.new }
     {
         self.ceilings.mean.go_to(sc, prefix);
-        let (near, onward) = (self.ceilings.mean.near(), self.ceilings.mean.onward());
-        self.exchange.bound(sc, near, onward, prefix, other)
+        self.exchange
+            .bound(sc, &mut self.ceilings.mean, prefix, other)
     }
 }
