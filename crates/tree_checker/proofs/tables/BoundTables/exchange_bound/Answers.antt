@@ -1,4 +1,0 @@
-use Rattle.tree_checker.proofs.tables.BoundTables.exchange_bound.Goals as goal
-
-pub bound-requires-clause-onward : goal.bound-requires-clause-onward
-bound-requires-clause-onward c = c.onward-onward.ensures c.args.sc.now c.args.prefix.now c.go_to.ensures.made c.go_to.ensures.there
