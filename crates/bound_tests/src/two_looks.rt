@@ -1,7 +1,9 @@
 ghost use Rattle.mean_bound.specs.Means.{IsMadeFor as IsMeanFor};
+ghost use Rattle.edge_bound.specs.Units.{HasUnits};
 ghost use Rattle.two_look_bound.specs.Rooms.{AreTablesFor};
 
 use crate::scenarios::{FOOTPRINTS, asked_of, crosses_threads};
+use edge_bound::{EdgeTables, Units};
 use mean_bound::Mean;
 use search_model::{Path, Scenario};
 use std::alloc::Global;
@@ -30,11 +32,13 @@ type Bound = (&'static [u8], u128);
 fn has_bound(
     sc: &Scenario,
     mean: &mut Mean,
+    units: &Units,
     tables: &mut TwoLookTables,
     cells: &[u8],
     bound: u128,
 ) -> bool
     requires mean { IsMeanFor sc.now mean.old }
+    requires units { HasUnits sc.now units.now }
     requires tables { AreTablesFor sc.now tables.old }
     ensures mean { IsMeanFor sc.now mean.new }
     ensures tables { AreTablesFor sc.now tables.new }
@@ -42,19 +46,26 @@ fn has_bound(
     match Path::of(cells) {
         Some(prefix) if sc.is_legal(&prefix) && cells.len() < sc.horizon() as usize => {
             mean.go_to(sc, &prefix);
-            tables.bound(sc, mean.near(), mean.onward(), &prefix) == bound
+            tables.bound(sc, mean.near(), units, mean.onward(), &prefix) == bound
         }
         _ => false,
     }
 }
 
 // Whether prefixes have their bounds, one asked after the other.
-fn have_bounds(sc: &Scenario, mean: &mut Mean, tables: &mut TwoLookTables, cases: &[Bound]) -> bool
+fn have_bounds(
+    sc: &Scenario,
+    mean: &mut Mean,
+    units: &Units,
+    tables: &mut TwoLookTables,
+    cases: &[Bound],
+) -> bool
     requires mean { IsMeanFor sc.now mean.old }
+    requires units { HasUnits sc.now units.now }
     requires tables { AreTablesFor sc.now tables.old }
 {
     for (cells, bound) in cases {
-        if !has_bound(sc, mean, tables, cells, *bound) {
+        if !has_bound(sc, mean, units, tables, cells, *bound) {
             return false;
         }
     }
@@ -66,20 +77,37 @@ fn are_bounded_by(
     alloc: Global,
     sc: &Scenario,
     mean: &mut Mean,
+    units: &Units,
+    bounds: &[Bound],
+) -> Result<bool, Fail>
+    requires mean { IsMeanFor sc.now mean.old }
+    requires units { HasUnits sc.now units.now }
+{
+    let mut tables = TwoLookTables::tables(alloc, sc, units)?;
+    let bounded = have_bounds(sc, mean, units, &mut tables, bounds);
+    drop(tables);
+    Ok(bounded)
+}
+
+// The same with what looks find of units, as the edge bound has it.
+fn are_bounded_beside(
+    alloc: Global,
+    sc: &Scenario,
+    mean: &mut Mean,
     bounds: &[Bound],
 ) -> Result<bool, Fail>
     requires { IsMeanFor sc.now mean.old }
 {
-    let mut tables = TwoLookTables::tables(alloc, sc)?;
-    let bounded = have_bounds(sc, mean, &mut tables, bounds);
-    drop(tables);
-    Ok(bounded)
+    let edge = EdgeTables::tables(alloc, sc)?;
+    let bounded = are_bounded_by(alloc, sc, mean, edge.units(), bounds);
+    drop(edge);
+    bounded
 }
 
 // Whether the prefixes of a scenario have these bounds.
 fn are_bounded_over(alloc: Global, sc: &Scenario, bounds: &[Bound]) -> Result<bool, Fail> {
     let mut mean = Mean::tables(alloc, sc)?;
-    let bounded = are_bounded_by(alloc, sc, &mut mean, bounds);
+    let bounded = are_bounded_beside(alloc, sc, &mut mean, bounds);
     drop(mean);
     bounded
 }

@@ -83,7 +83,7 @@ fn gain_before(sc: &Scenario, prefix: &Path, found: u128, best: u128, t: u32, a:
 /// What a look from position `a` in the period before takes of the reward of a look from `b` in period `t`, where looks from
 /// `a` cover its own cell alone: by what it finds there, in the parts of what is to come, and where the numbers of that cell
 /// begin.
-pub(crate) fn taken_own(
+pub fn taken_own(
     sc: &Scenario,
     prefix: &Path,
     units: &Units,

@@ -13,10 +13,11 @@ mod tables;
 mod units;
 
 pub use along::{first_reward, next_reward};
+pub use best::taken_own;
 pub use edge::Edge;
 pub use laws::worked_edges;
-pub use moves::{look_from, mass_at};
+pub use moves::{found_by, look_from, mass_at};
 pub use rows::fill_rewards;
-pub use shares::fill_shares;
+pub use shares::{fill_shares, taken_by_shares};
 pub use tables::EdgeTables;
-pub use units::{Units, is_steady};
+pub use units::{Units, has_own_looks, is_steady};

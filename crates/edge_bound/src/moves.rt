@@ -54,7 +54,7 @@ fn found_by_row(sc: &Scenario, prefix: &Path, onward: &Onward, t: u32, b: u8) ->
 }
 
 /// What a look from `b` in period `t` finds with no look between it and the prefix, in all cells that it covers.
-pub(crate) fn found_by(sc: &Scenario, prefix: &Path, onward: &Onward, t: u32, b: u8) -> u128
+pub fn found_by(sc: &Scenario, prefix: &Path, onward: &Onward, t: u32, b: u8) -> u128
     requires later { length prefix.now < t }
     requires last { t ≤ sc.now.horizon }
     requires position { b < sc.now.positions }

@@ -53,7 +53,7 @@ pub fn fill_shares(
 
 /// What a look from position `a` in the period before takes of the reward of a look from `b` in period `t`, by what it finds in
 /// each cell of its row, in the parts of what is to come.
-pub(crate) fn taken_by_shares(
+pub fn taken_by_shares(
     sc: &Scenario,
     prefix: &Path,
     units: &Units,

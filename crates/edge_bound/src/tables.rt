@@ -98,6 +98,7 @@ fn sum_from(
 }
 
 impl EdgeTables {
+    ghost use Rattle.search_model.specs.Problem.{Problem};
     ghost use Rattle.edge_bound.specs.Edges.{AreTablesFor};
 
     /// Tables for a scenario. Only this call takes memory.
@@ -111,6 +112,13 @@ impl EdgeTables {
             earlier: vec![in alloc; 0; positions]?,
             shares: vec![in alloc; 0; usize::from(sc.cells())]?,
         })
+    }
+
+    /// What looks find of units of mass a period after, for who makes other bounds of the same scenario.
+    pub fn units(&self) -> &Units
+        ensures units { (p : Problem) → AreTablesFor p self.now → HasUnits p result.now }
+    {
+        &self.units
     }
 
     /// The edge bound of a legal prefix shorter than the horizon, in parts of the whole weight, by the positions within

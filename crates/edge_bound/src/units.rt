@@ -82,8 +82,8 @@ fn is_own(sc: &Scenario, b: u8) -> bool
     }
 }
 
-// Whether looks from each position cover the cell of its number alone.
-fn has_own_looks(sc: &Scenario) -> bool
+/// Whether looks from each position cover the cell of its number alone.
+pub fn has_own_looks(sc: &Scenario) -> bool
     ensures { IsTrue result → (b : ℕ) → b < sc.now.positions → IsOwn sc.now b }
 {
     for b in 0..sc.positions() {

@@ -21,7 +21,7 @@ use Rattle.edge_bound.specs.Found.{one_of}
 use Rattle.edge_bound.specs.After.{going_on, parts_after}
 use Rattle.edge_bound.proofs.Discounts.{reward_parts, taken_of_mass, mass_comes}
 use Rattle.edge_bound.proofs.Fitting.{greatest-within, found_parts-within, edge_reward-within}
-use Rattle.two_look_bound.specs.Pairs.{two_reward_of, sum_pairs, second_sum, two_sum, greatest_pairs, pair_sum, IsMiddle}
+use Rattle.two_look_bound.specs.Pairs.{two_reward_of, sum_pairs, second_sum, two_sum, greatest_pairs, pair_sum, two_and_rest, IsMiddle}
 use Rattle.two_look_bound.specs.Taken.{taken_to, two_of, parts_after_two, skip_of, joint_of}
 use Rattle.two_look_bound.proofs.TwoLooks.{found_gone, left_and_found, skip_cells, two_looks}
 
@@ -40,7 +40,7 @@ module _ (p : Problem) (sound : IsProblem p) (q : List ℕ) (s : ℕ) (middle : 
       ap (λ (m : ℕ). g ^ m) (let e : p.horizon - (length q + 2) ≡ suc n = omega (arith, middle.later, middle.last) in e) ∙ pow-suc g n in
       rw more (omega arith)
 
-  parts_before : parts_after p q s ≡ parts_after_two p q s * (p.drift.denominator * p.sweep.denominator)
+  pub parts_before : parts_after p q s ≡ parts_after_two p q s * (p.drift.denominator * p.sweep.denominator)
   parts_before =
       let d = p.drift.denominator in
       let g = p.sweep.denominator in
@@ -53,7 +53,7 @@ module _ (p : Problem) (sound : IsProblem p) (q : List ℕ) (s : ℕ) (middle : 
       rw (steps, looks) (omega arith)
 
   -- what the look before finds, in the parts that come after three looks, times those of a drift and a look
-  before-within : (a : ℕ) → found_of p (s - 1) a (mass_of p (looks_to (s - 1) q)) * parts_after_two p q s * (p.drift.denominator * p.sweep.denominator) ≤ whole_weight p
+  pub before-within : (a : ℕ) → found_of p (s - 1) a (mass_of p (looks_to (s - 1) q)) * parts_after_two p q s * (p.drift.denominator * p.sweep.denominator) ≤ whole_weight p
   before-within a =
       let most = found_parts-within p sound q s a middle.later (omega (arith, middle.last)) in
       omega (arith, rw parts_before at most)
@@ -138,6 +138,10 @@ module _ (p : Problem) (sound : IsProblem p) (q : List ℕ) (s : ℕ) (middle : 
 
       pub two_reward-within : (b : ℕ) → two_reward_of p q (s + 1) a b c ≤ whole_weight p
       two_reward-within b = omega (arith, two_reward-edge b, edge_reward-within p sound q (s + 1) b c (omega (arith, middle.later, middle.last)))
+
+-- so with what follows it is no greater either
+pub two-below : (p : Problem) → IsProblem p → (q : List ℕ) (s a b c : ℕ) → IsMiddle p q s → two_and_rest p q s a b c ≤ pair_sum p q s b c
+two-below p sound q s a b c middle = omega (arith, two_reward-edge p sound q s middle a c b)
 
 module _ (p : Problem) (sound : IsProblem p) (q : List ℕ) where
   -- a sum of rewards after two looks is within so many times the whole weight

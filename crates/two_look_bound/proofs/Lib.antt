@@ -5,3 +5,4 @@ pub mod Walking
 pub mod Weights
 pub mod TwosTable
 pub mod PathSums
+pub mod OwnCells

@@ -1,5 +1,5 @@
 -- The table of what looks find of units two periods after: its rows, and which periods one block of it serves.
-use Rattle.std.proofs.Common.{ℕ, ◌+◌, ◌*◌, ◌-◌, ◌<◌, ◌≤◌, ◌≡◌, List, length, slice_index, slice_index_or, sym, ap, ◌∙◌, arith, inl, inr, sum_by, mul-le-mul_left, All}
+use Rattle.std.proofs.Common.{ℕ, ◌+◌, ◌*◌, ◌-◌, ◌<◌, ◌≤◌, ◌≡◌, List, length, slice_index, slice_index_or, refl, sym, ap, ◌∙◌, arith, inl, inr, sum_by, mul-le-mul_left, All}
 use Rattle.std.specs.List.{range_with_len}
 use Rattle.std.proofs.lemmas.Bool.{cases_eq}
 use Rattle.std.proofs.Math.Nat.{mul-le-mul_right}
@@ -29,18 +29,20 @@ two-within p sound s c b here =
     let denominator : p.drift.denominator * most ≤ 1000000 * most = mul-le-mul_right most sound.drift.denominator.1 in
     omega (arith, each, whole, denominator)
 
+-- the cells of a row of the drift are cells
+pub row_cells : (p : Problem) → IsProblem p → (t c : ℕ) (row : List CellPart) → c < p.cells → row ≡ row_of p.drift t c → All (λ (e : CellPart). e.cell < p.cells) row
+row_cells p sound t c row here is = rw is (rw sound.drift_cells at (sound.drift.each t c (omega (arith, here, sound.drift_cells))).within)
+
 -- by the entries of the drift's row of the cell
 pub entries_give : (p : Problem) → IsProblem p → (s c b : ℕ) → c < p.cells → sum_by (λ (e : CellPart). e.part * one_of p (s + 1) e.cell b) (row_of p.drift (s - 1) c) ≡ two_of p s c b
 entries_give p sound s c b here =
     let row = row_of p.drift (s - 1) c in
-    let within : All (λ (e : CellPart). e.cell < p.cells) row = rw sound.drift_cells at (sound.drift.each (s - 1) c (omega (arith, here, sound.drift_cells))).within in
-    sym (row_by_cells p.cells (λ d. one_of p (s + 1) d b) row within)
+    sym (row_by_cells p.cells (λ d. one_of p (s + 1) d b) row (row_cells p sound (s - 1) c row here refl))
 
 -- an entry's cell is one
 pub entry_cell : (p : Problem) → IsProblem p → (t c i : ℕ) (row : List CellPart) → c < p.cells → row ≡ row_of p.drift t c → i < length row → (slice_index_or row i (misses 0 0)).cell < p.cells
 entry_cell p sound t c i row here is inside =
-    let within : All (λ (e : CellPart). e.cell < p.cells) row = rw is (rw sound.drift_cells at (sound.drift.each t c (omega (arith, here, sound.drift_cells))).within) in
-    All-get_or (λ (e : CellPart). e.cell < p.cells) row i (misses 0 0) inside within
+    All-get_or (λ (e : CellPart). e.cell < p.cells) row i (misses 0 0) inside (row_cells p sound t c row here is)
 
 -- in a steady problem it is the same in all periods
 steady_two : (p : Problem) → IsSteady p → (s c b : ℕ) → 2 ≤ s → s + 1 ≤ p.horizon → c < p.cells → b < p.positions → two_of p s c b ≡ two_of p 2 c b

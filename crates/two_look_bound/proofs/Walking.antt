@@ -130,11 +130,6 @@ filled_all P xs ys n same all each b listed =
     let there = subst (λ (zs : List ℕ). Contains zs b) (sym same) listed in
     subst P (get_or_default xs there.0 0 b there.1 ∙ there.2) (each there.0 (omega (arith, there.1, all)))
 
--- the sum of a pair that begins behind another, where its row begins at a place
-pub pair_at : (p : Problem) (q pairs : List ℕ) (s a b c here : ℕ) → here ≡ b * p.positions → length q + 2 ≤ s → IsNear p.moves (s - 1 - length q) (last_of p.start q) a → Contains (moves_from p.moves a) b → Contains (moves_from p.moves b) c →
-    HasPairs p q s pairs → slice_index pairs (here + c) ≡ pair_sum p q s b c
-pair_at p q pairs s a b c here is later near move next filled = rw is (pair_there p q pairs s a b c later near move next filled)
-
 -- one number more of a list, of those of some places
 pub place_more : (f : ℕ → ℕ) (old moves : List ℕ) (i v : ℕ) → slice_index moves i < length old → v ≡ f (slice_index moves i) →
     ((j : ℕ) → j < i → slice_index old (slice_index moves j) ≡ f (slice_index moves j)) →

@@ -1,23 +1,27 @@
 -- Sums of shares, one for each entry of a row, times the numbers of their cells.
 use Rattle.std.proofs.Common.{ℕ, zero, suc, ◌+◌, ◌*◌, ◌-◌, ◌<◌, ◌≤◌, ◌≡◌, List, length, take, slice_index, slice_index_or, ap, ◌∙◌, arith, sum_by, All}
+use Rattle.std.proofs.Math.Nat.{mul-le-mul_right}
 use Rattle.std.specs.List.{range_with_len}
 use Rattle.std.proofs.lemmas.List.{take_all}
 use Rattle.std.proofs.lemmas.List.Elements.{All-get_or}
-use Rattle.std.proofs.lemmas.List.Sums.{sum_by_more}
+use Rattle.std.proofs.lemmas.List.Sums.{sum_by_more, sum_by_more_le}
 use Rattle.period_rows.specs.declared.part.CellPart.{CellPart}
+use Rattle.drift_chain.specs.DriftRows.{row_of, part_in}
 use Rattle.sweep_table.specs.LookParts.{look_row, misses}
 use Rattle.search_model.specs.Problem.{Problem, IsProblem}
+use Rattle.search_model.specs.Tracks.{whole_weight}
 use Rattle.search_model.proofs.LookRows.{covered_cell}
 use Rattle.list_laws.proofs.Sums.{sum_by-range-suc}
 use Rattle.belief_update.specs.Found.{found_in, found_of}
 use Rattle.belief_update.specs.Masses.{mass_of, looks_to}
 use Rattle.edge_bound.specs.Found.{one_of}
-use Rattle.edge_bound.specs.After.{parts_after, loss_of}
-use Rattle.edge_bound.specs.Moves.{IsLater, HasShares}
+use Rattle.edge_bound.specs.After.{going_on, loss_of}
+use Rattle.edge_bound.specs.Moves.{HasShares}
 use Rattle.edge_bound.specs.Units.{UnitTable, HasUnits, unit_at}
 use Rattle.two_look_bound.specs.Pairs.{IsMiddle}
 use Rattle.two_look_bound.specs.Taken.{two_of, taken_to, parts_after_two, joint_of, HasLess, weighted_sum}
 use Rattle.two_look_bound.specs.Rooms.{HasTwos}
+use Rattle.two_look_bound.proofs.Fitting.{parts_before, taken_to-within}
 
 module _ (p : Problem) (u : UnitTable) (t b : ℕ) (row : List CellPart) (shares : List ℕ) (f h : ℕ → ℕ) (parts : ℕ)
     (each : (i : ℕ) → i < length row → slice_index shares i ≡ found_in p f (slice_index_or row i (misses 0 0)) * parts)
@@ -58,8 +62,31 @@ module _ (p : Problem) (sound : IsProblem p) (q : List ℕ) (s a b c : ℕ) (u :
       let numbers = look_cells p sound (s - 1) a (λ d. unit_at u s d c ≡ two_of p s d c) (λ d here. twos.each s d c (omega (arith, middle.later)) middle.last here there) in
       rw is (weighted_is p u s c (look_row p.sweep (s - 1) a) shares (mass_of p (looks_to (s - 1) q)) (λ d. two_of p s d c) (parts_after_two p q s) each numbers)
 
-  -- what the look before takes of a reward
-  pub loss_sum : IsLater p q s → HasUnits p u → row ≡ look_row p.sweep (s - 1) a → HasShares p q s a (parts_after p q s) shares → weighted_sum u s c row shares ≡ loss_of p q s a c
-  loss_sum period units is each =
-      let numbers = look_cells p sound (s - 1) a (λ d. unit_at u s d c ≡ one_of p s d c) (λ d here. units.each s d c (omega (arith, period.later)) period.last here there) in
-      rw is (weighted_is p u s c (look_row p.sweep (s - 1) a) shares (mass_of p (looks_to (s - 1) q)) (λ d. one_of p s d c) (parts_after p q s) each numbers)
+  -- what the look before would find with this one, which times the parts of a drift and of a look is what it takes of the reward
+  pub less_sum : IsMiddle p q s → HasUnits p u → row ≡ look_row p.sweep (s - 1) a → HasShares p q s a (parts_after_two p q s) shares →
+      weighted_sum u s c row shares * (p.drift.denominator * p.sweep.denominator) ≡ loss_of p q s a c
+  less_sum middle units is each =
+      let numbers = look_cells p sound (s - 1) a (λ d. unit_at u s d c ≡ one_of p s d c) (λ d here. units.each s d c (omega (arith, middle.later)) (omega (arith, middle.last)) here there) in
+      let sum = weighted_is p u s c (look_row p.sweep (s - 1) a) shares (mass_of p (looks_to (s - 1) q)) (λ d. one_of p s d c) (parts_after_two p q s) each numbers in
+      rw (is, sum, parts_before p sound q s middle) (omega arith)
+
+-- What is taken of the mass of a cell, entry by entry.
+module _ (p : Problem) (q : List ℕ) (s a i : ℕ) (before row : List CellPart) (share : ℕ) (is : before ≡ look_row p.sweep (s - 1) a) (inside : i < length before)
+    (found : share ≡ found_in p (mass_of p (looks_to (s - 1) q)) (slice_index_or before i (misses 0 0)) * parts_after_two p q s)
+    (sent : row ≡ row_of p.drift (s - 1) (slice_index_or before i (misses 0 0)).cell)
+    (e now : ℕ) (so_far : now ≡ sum_by (found_in p (going_on p q s e)) (take i before) * parts_after_two p q s) where
+  -- what one of them takes
+  taken_by_entry : share * part_in row e ≡ found_in p (going_on p q s e) (slice_index_or before i (misses 0 0)) * parts_after_two p q s
+  taken_by_entry = rw (found, sent) (omega arith)
+
+  pub taken_more : now + share * part_in row e ≡ sum_by (found_in p (going_on p q s e)) (take (i + 1) before) * parts_after_two p q s
+  taken_more =
+      let more = sum_by_more (found_in p (going_on p q s e)) before i (misses 0 0) inside in
+      omega (arith, taken_by_entry, so_far, ap (λ (n : ℕ). n * parts_after_two p q s) more)
+
+  -- all of it fits
+  pub taken_more-within : IsProblem p → IsMiddle p q s → e < p.cells → now + share * part_in row e ≤ whole_weight p
+  taken_more-within sound middle there =
+      let most = taken_to-within p sound q s middle a e there in
+      let more = sum_by_more_le (found_in p (going_on p q s e)) before i (misses 0 0) inside in
+      omega (arith, taken_by_entry, so_far, mul-le-mul_right (parts_after_two p q s) more, rw (← is) at most)

@@ -37,9 +37,17 @@ two_look_of p q = value_of p q + greatest (map (two_sum p q) (continuations p q)
 abbrev pub greatest_pairs : List (List ℕ) → (ℕ → ℕ → ℕ → ℕ → ℕ) → ℕ → ℕ → ℕ → ℕ → ℕ
 greatest_pairs rows r n t a b = greatest (map (sum_pairs r t a b) (walks rows n b))
 
+-- the edge reward of a look from b in period s after one from a, and the greatest sum that follows it
+abbrev pub edge_and_rest : Problem → List ℕ → ℕ → ℕ → ℕ → ℕ
+edge_and_rest p q s a b = edge_reward_of p q s a b + greatest_pairs p.moves (two_reward_of p q) (p.horizon - s) (s + 1) a b
+
+-- the reward of a look from c in the period after s, after looks from a and b, and the greatest sum that follows it
+abbrev pub two_and_rest : Problem → List ℕ → ℕ → ℕ → ℕ → ℕ → ℕ
+two_and_rest p q s a b c = two_reward_of p q (s + 1) a b c + greatest_pairs p.moves (two_reward_of p q) (p.horizon - (s + 1)) (s + 1 + 1) b c
+
 -- the edge reward of a move from a to b, the first look in period s, and the greatest sum that follows it
 abbrev pub pair_sum : Problem → List ℕ → ℕ → ℕ → ℕ → ℕ
-pair_sum p q s a b = edge_reward_of p q (s + 1) a b + greatest_pairs p.moves (two_reward_of p q) (p.horizon - (s + 1)) (s + 1 + 1) a b
+pair_sum p q s a b = edge_and_rest p q (s + 1) a b
 
 -- these sums for each position that the searcher can be on in period s, and each of its moves
 abbrev pub HasPairs : Problem → List ℕ → ℕ → List ℕ → Type 0

@@ -25,6 +25,14 @@ taken_to p q s a e = found_of p (s - 1) a (going_on p q s e)
 abbrev pub parts_after_two : Problem → List ℕ → ℕ → ℕ
 parts_after_two p q s = p.drift.denominator ^ (p.horizon - (s + 1)) * p.sweep.denominator ^ (p.horizon - (length q + 3))
 
+-- what a look from position a in the period before s finds, in these parts
+abbrev pub share_of : Problem → List ℕ → ℕ → ℕ → ℕ
+share_of p q s a = found_of p (s - 1) a (mass_of p (looks_to (s - 1) q)) * parts_after_two p q s
+
+-- what it takes of the mass of each cell in period s, in these parts
+abbrev pub HasTaken : Problem → List ℕ → ℕ → ℕ → List ℕ → Type 0
+HasTaken p q s a taken = (e : ℕ) → e < p.cells → slice_index taken e ≡ taken_to p q s a e * parts_after_two p q s
+
 -- what looks from a and c would find one after the other, with none between them
 abbrev pub skip_of : Problem → List ℕ → ℕ → ℕ → ℕ → ℕ
 skip_of p q s a c = found_of p (s - 1) a (λ d. mass_of p (looks_to (s - 1) q) d * two_of p s d c) * parts_after_two p q s * p.sweep.denominator

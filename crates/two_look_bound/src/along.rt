@@ -7,21 +7,20 @@ ghost use Rattle.two_look_bound.specs.Pairs.{two_reward_of, sum_pairs, second_su
 ghost use Rattle.two_look_bound.specs.Rooms.{HasTwos};
 
 use crate::pairs::gain_after;
-use crate::taken::{fill_less, joint, skip};
+use crate::taken::{fill_less, fill_taken, joint, skip};
 use belief_update::{Onward, later_parts};
 use edge_bound::{Units, fill_shares, first_reward, look_from, next_reward};
 use search_model::{Path, Scenario};
 
-// The reward of a look at `c` in the period after `s`, after one at `b` in period `s` and one at `a` before it; `shares` and `less` are
-// room for a row of cells each.
+// The reward of a look at `c` in the period after `s`, after one at `b` in period `s` and one at `a` before it; `rows` begins
+// with room for three rows of cells.
 fn two_reward(
     sc: &Scenario,
     prefix: &Path,
     onward: &Onward,
     units: &Units,
     twos: &Units,
-    shares: &mut [u128],
-    less: &mut [u128],
+    rows: &mut [u128],
     s: u32,
     a: u8,
     b: u8,
@@ -34,29 +33,22 @@ fn two_reward(
     requires onward { IsOnward sc.now prefix.now onward.now }
     requires units { HasUnits sc.now units.now }
     requires twos { HasTwos sc.now twos.now }
-    requires shares { length shares.old ≡ sc.now.cells }
-    requires less { length less.old ≡ sc.now.cells }
+    requires rows { sc.now.cells + sc.now.cells + sc.now.cells ≤ length rows.old }
     ensures reward { result ≡ two_reward_of sc.now prefix.now (s + 1) a b c }
-    ensures shares { length shares.new ≡ length shares.old }
-    ensures less { length less.new ≡ length less.old }
+    ensures rows { length rows.new ≡ length rows.old }
 {
     sc.recall_sound();
+    let cells = usize::from(sc.cells());
+    let (shares, others) = rows.split_at_mut(cells);
+    let (taken, behind) = others.split_at_mut(cells);
+    let (less, _) = behind.split_at_mut(cells);
     let edge = next_reward(sc, prefix, onward, units, shares, s + 1, b, c);
     let before = look_from(sc, s - 1, a);
     let row = look_from(sc, s, b);
     let parts = later_parts(sc, s + 1, prefix.len() as u32 + 3);
     fill_shares(shares, sc, prefix, onward, before.parts(), parts, s, a);
-    fill_less(
-        less,
-        sc,
-        prefix,
-        shares,
-        before.parts(),
-        row.parts(),
-        s,
-        a,
-        b,
-    );
+    fill_taken(taken, sc, prefix, shares, before.parts(), s, a);
+    fill_less(less, sc, prefix, taken, row.parts(), s, a, b);
     let all = joint(sc, prefix, units, less, row.parts(), s, a, b, c);
     let outer = skip(sc, prefix, twos, shares, before.parts(), s, a, c);
     gain_after(sc, prefix, edge, all, outer, s, a, b, c)
@@ -69,8 +61,7 @@ fn sum_later(
     onward: &Onward,
     units: &Units,
     twos: &Units,
-    shares: &mut [u128],
-    less: &mut [u128],
+    rows: &mut [u128],
     path: &[u8],
 ) -> u128
     requires short { length prefix.now + 2 ≤ sc.now.horizon }
@@ -79,14 +70,12 @@ fn sum_later(
     requires onward { IsOnward sc.now prefix.now onward.now }
     requires units { HasUnits sc.now units.now }
     requires twos { HasTwos sc.now twos.now }
-    requires shares { length shares.old ≡ sc.now.cells }
-    requires less { length less.old ≡ sc.now.cells }
+    requires rows { sc.now.cells + sc.now.cells + sc.now.cells ≤ length rows.old }
     requires fits { let k = length prefix.now in
         sum_pairs (two_reward_of sc.now prefix.now) (k + 2 + 1) (slice_index path.now k) (slice_index path.now (k + 1)) (drop (k + 2) path.now) < 2 ^ 127 }
     ensures sum { let k = length prefix.now in
         result ≡ sum_pairs (two_reward_of sc.now prefix.now) (k + 2 + 1) (slice_index path.now k) (slice_index path.now (k + 1)) (drop (k + 2) path.now) }
-    ensures shares { length shares.new ≡ length shares.old }
-    ensures less { length less.new ≡ length less.old }
+    ensures rows { length rows.new ≡ length rows.old }
 {
     sc.recall_sound();
     let mut sum = 0;
@@ -97,8 +86,7 @@ fn sum_later(
             onward,
             units,
             twos,
-            shares,
-            less,
+            rows,
             n as u32,
             path[n - 2],
             path[n - 1],
@@ -115,8 +103,7 @@ fn sum_second(
     onward: &Onward,
     units: &Units,
     twos: &Units,
-    shares: &mut [u128],
-    less: &mut [u128],
+    rows: &mut [u128],
     path: &[u8],
 ) -> u128
     requires short { length prefix.now < sc.now.horizon }
@@ -125,11 +112,9 @@ fn sum_second(
     requires onward { IsOnward sc.now prefix.now onward.now }
     requires units { HasUnits sc.now units.now }
     requires twos { HasTwos sc.now twos.now }
-    requires shares { length shares.old ≡ sc.now.cells }
-    requires less { length less.old ≡ sc.now.cells }
+    requires rows { sc.now.cells + sc.now.cells + sc.now.cells ≤ length rows.old }
     ensures sum { let k = length prefix.now in result ≡ second_sum sc.now prefix.now (slice_index path.now k) (drop (k + 1) path.now) }
-    ensures shares { length shares.new ≡ length shares.old }
-    ensures less { length less.new ≡ length less.old }
+    ensures rows { length rows.new ≡ length rows.old }
 {
     sc.recall_sound();
     let k = prefix.len();
@@ -137,6 +122,7 @@ fn sum_second(
     if k == last {
         return 0;
     }
+    let (shares, _) = rows.split_at_mut(usize::from(sc.cells()));
     let second = next_reward(
         sc,
         prefix,
@@ -147,18 +133,17 @@ fn sum_second(
         path[k],
         path[k + 1],
     );
-    second + sum_later(sc, prefix, onward, units, twos, shares, less, path)
+    second + sum_later(sc, prefix, onward, units, twos, rows, path)
 }
 
-/// The sum of the rewards along a path after a prefix; `shares` and `less` are room for a row of cells each.
+/// The sum of the rewards along a path after a prefix; `rows` begins with room for three rows of cells.
 pub(crate) fn sum_after(
     sc: &Scenario,
     prefix: &Path,
     onward: &Onward,
     units: &Units,
     twos: &Units,
-    shares: &mut [u128],
-    less: &mut [u128],
+    rows: &mut [u128],
     path: &[u8],
 ) -> u128
     requires short { length prefix.now < sc.now.horizon }
@@ -167,13 +152,11 @@ pub(crate) fn sum_after(
     requires onward { IsOnward sc.now prefix.now onward.now }
     requires units { HasUnits sc.now units.now }
     requires twos { HasTwos sc.now twos.now }
-    requires shares { length shares.old ≡ sc.now.cells }
-    requires less { length less.old ≡ sc.now.cells }
+    requires rows { sc.now.cells + sc.now.cells + sc.now.cells ≤ length rows.old }
     ensures sum { result ≡ two_sum sc.now prefix.now (drop (length prefix.now) path.now) }
-    ensures shares { length shares.new ≡ length shares.old }
-    ensures less { length less.new ≡ length less.old }
+    ensures rows { length rows.new ≡ length rows.old }
 {
     sc.recall_sound();
     let first = first_reward(sc, prefix, onward, path[prefix.len()]);
-    first + sum_second(sc, prefix, onward, units, twos, shares, less, path)
+    first + sum_second(sc, prefix, onward, units, twos, rows, path)
 }

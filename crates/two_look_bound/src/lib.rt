@@ -3,7 +3,9 @@
 #![tactic(auto)]
 
 mod along;
+mod last;
 mod laws;
+mod own;
 mod pairs;
 mod rows;
 mod tables;

@@ -1,17 +1,16 @@
 //! The greatest sums behind a pair of looks.
 
-ghost use Rattle.std.specs.Prelude.{◌≡◌, ◌<◌, ◌≤◌, ◌+◌, ◌-◌, ◌*◌, ◌^◌, ◌⊎◌, ℕ, length, slice_index, slice_set, Contains};
+ghost use Rattle.std.specs.Prelude.{◌≡◌, ◌<◌, ◌≤◌, ◌+◌, ◌-◌, ◌*◌, ◌^◌, ◌⊎◌, ℕ, length, max, slice_index, slice_set, Contains};
 ghost use Rattle.sweep_table.specs.LookParts.{look_row};
 ghost use Rattle.search_grid.specs.Moves.{moves_from};
 ghost use Rattle.search_model.specs.Legal.{last_of};
 ghost use Rattle.search_model.specs.Bounds.{reward_of};
 ghost use Rattle.search_model.specs.Edge.{edge_reward_of};
 ghost use Rattle.longest_walk.specs.Near.{IsNear};
-ghost use Rattle.edge_bound.specs.After.{parts_after};
 ghost use Rattle.edge_bound.specs.Moves.{IsLater, HasShares};
 ghost use Rattle.edge_bound.specs.Units.{HasUnits};
-ghost use Rattle.two_look_bound.specs.Pairs.{two_reward_of, greatest_pairs, HasPairs, IsMiddle};
-ghost use Rattle.two_look_bound.specs.Taken.{parts_after_two, skip_of, joint_of, HasLess, HasSkips};
+ghost use Rattle.two_look_bound.specs.Pairs.{two_reward_of, greatest_pairs, pair_sum, edge_and_rest, two_and_rest, HasPairs, IsMiddle};
+ghost use Rattle.two_look_bound.specs.Taken.{parts_after_two, skip_of, joint_of, HasTaken, HasLess, HasSkips};
 
 use crate::taken::{fill_less, joint, weighted};
 use edge_bound::{Units, look_from};
@@ -52,12 +51,46 @@ pub(crate) fn sum_at(sums: &[u128], here: usize, b: u8) -> u128
     sums[here + usize::from(b)]
 }
 
-// Writes the number of position `b` in a row that begins at a place.
-fn put_at(sums: &mut [u128], here: usize, b: u8, sum: u128)
+/// Writes the number of position `b` in a row that begins at a place.
+pub(crate) fn put_at(sums: &mut [u128], here: usize, b: u8, sum: u128)
     requires { here + b < length sums.old }
     ensures { sums.new ≡ slice_set sums.old (here + b) sum }
 {
     sums[here + usize::from(b)] = sum;
+}
+
+// The greater of a number and the reward of a look from `c` after those from `a` and `b`, with the greatest sum that follows it, by
+// its edge reward with that sum. It is no more than that one, so where the number is no less, nothing is computed.
+fn better_by_row(
+    sc: &Scenario,
+    prefix: &Path,
+    units: &Units,
+    less: &[u128],
+    row: &[LookPart],
+    best: u128,
+    gain: u128,
+    outer: u128,
+    s: u32,
+    a: u8,
+    b: u8,
+    c: u8,
+) -> u128
+    requires middle { IsMiddle sc.now prefix.now s }
+    requires to { c < sc.now.positions }
+    requires units { HasUnits sc.now units.now }
+    requires row { row.now ≡ look_row sc.now.sweep s b }
+    requires less { HasLess sc.now prefix.now s a b less.now }
+    requires room { length less.now ≡ sc.now.cells }
+    requires outer { outer ≡ skip_of sc.now prefix.now s a c }
+    requires gain { gain ≡ pair_sum sc.now prefix.now s b c }
+    ensures { result ≡ max (two_and_rest sc.now prefix.now s a b c) best }
+{
+    sc.recall_sound();
+    if gain <= best {
+        return best;
+    }
+    let all = joint(sc, prefix, units, less, row, s, a, b, c);
+    gain_after(sc, prefix, gain, all, outer, s, a, b, c).max(best)
 }
 
 // The greatest sum behind looks from `a` in the period before `s` and `b` in period `s`, by the sums of the pairs that `b` begins.
@@ -74,7 +107,6 @@ fn best_after(
     b: u8,
 ) -> u128
     requires middle { IsMiddle sc.now prefix.now s }
-    requires from { a < sc.now.positions }
     requires near { IsNear sc.now.moves (s - 1 - length prefix.now) (last_of sc.now.start prefix.now) a }
     requires step { Contains (moves_from sc.now.moves a) b }
     requires to { b < sc.now.positions }
@@ -92,97 +124,48 @@ fn best_after(
     let here = usize::from(b) * usize::from(sc.positions());
     let mut best = 0;
     for c in moves {
-        let sum = sum_behind(
-            sc, prefix, units, pairs, skips, less, row, here, s, a, b, *c,
-        );
-        best = sum.max(best);
+        let gain = sum_at(pairs, here, *c);
+        let outer = skips[usize::from(*c)];
+        best = better_by_row(sc, prefix, units, less, row, best, gain, outer, s, a, b, *c);
     }
     best
 }
 
-// The reward of a look from `c` after those from `a` and `b`, with the greatest sum that follows it; the sums of the pairs that `b`
-// begins stand from `here` on.
-fn sum_behind(
-    sc: &Scenario,
-    prefix: &Path,
-    units: &Units,
-    pairs: &[u128],
-    skips: &[u128],
-    less: &[u128],
-    row: &[LookPart],
-    here: usize,
-    s: u32,
-    a: u8,
-    b: u8,
-    c: u8,
-) -> u128
-    requires middle { IsMiddle sc.now prefix.now s }
-    requires here { here ≡ b * sc.now.positions }
-    requires near { IsNear sc.now.moves (s - 1 - length prefix.now) (last_of sc.now.start prefix.now) a }
-    requires step { Contains (moves_from sc.now.moves a) b }
-    requires from { b < sc.now.positions }
-    requires next { Contains (moves_from sc.now.moves b) c }
-    requires to { c < sc.now.positions }
-    requires units { HasUnits sc.now units.now }
-    requires size { length pairs.now ≡ sc.now.positions * sc.now.positions }
-    requires pairs { HasPairs sc.now prefix.now s pairs.now }
-    requires width { length skips.now ≡ sc.now.positions }
-    requires skips { HasSkips sc.now prefix.now s a skips.now }
-    requires row { row.now ≡ look_row sc.now.sweep s b }
-    requires less { HasLess sc.now prefix.now s a b less.now }
-    requires room { length less.now ≡ sc.now.cells }
-    ensures { result ≡ two_reward_of sc.now prefix.now (s + 1) a b c +
-        greatest_pairs sc.now.moves (two_reward_of sc.now prefix.now) (sc.now.horizon - (s + 1)) (s + 1 + 1) b c }
-{
-    sc.recall_sound();
-    let gain = sum_at(pairs, here, c);
-    let outer = skips[usize::from(c)];
-    let all = joint(sc, prefix, units, less, row, s, a, b, c);
-    gain_after(sc, prefix, gain, all, outer, s, a, b, c)
-}
-
-// The greatest sum behind looks from `a` in the period before `s` and from `b` in period `s`, whether or not `s` is the last period;
-// `less` is room for a row of cells.
+// The same, by what the look from `a` takes of each cell; `less` is room for a row of cells.
 fn best_behind(
     sc: &Scenario,
     prefix: &Path,
     units: &Units,
     pairs: &[u128],
     skips: &[u128],
-    shares: &[u128],
+    taken: &[u128],
     less: &mut [u128],
-    before: &[LookPart],
     s: u32,
     a: u8,
     b: u8,
 ) -> u128
-    requires period { IsLater sc.now prefix.now s }
-    requires from { a < sc.now.positions }
+    requires middle { IsMiddle sc.now prefix.now s }
     requires near { IsNear sc.now.moves (s - 1 - length prefix.now) (last_of sc.now.start prefix.now) a }
     requires step { Contains (moves_from sc.now.moves a) b }
     requires to { b < sc.now.positions }
     requires units { HasUnits sc.now units.now }
     requires size { length pairs.now ≡ sc.now.positions * sc.now.positions }
-    requires pairs { s < sc.now.horizon → HasPairs sc.now prefix.now s pairs.now }
+    requires pairs { HasPairs sc.now prefix.now s pairs.now }
     requires width { length skips.now ≡ sc.now.positions }
-    requires skips { s < sc.now.horizon → HasSkips sc.now prefix.now s a skips.now }
-    requires before { before.now ≡ look_row sc.now.sweep (s - 1) a }
-    requires shares { s < sc.now.horizon → HasShares sc.now prefix.now s a (parts_after_two sc.now prefix.now s) shares.now }
-    requires room { length shares.now ≡ sc.now.cells }
+    requires skips { HasSkips sc.now prefix.now s a skips.now }
+    requires taken { HasTaken sc.now prefix.now s a taken.now }
+    requires room { length taken.now ≡ sc.now.cells }
     requires less { length less.old ≡ sc.now.cells }
     ensures best { result ≡ greatest_pairs sc.now.moves (two_reward_of sc.now prefix.now) (sc.now.horizon - s) (s + 1) a b }
     ensures less { length less.new ≡ length less.old }
 {
-    if s == sc.horizon() {
-        return 0;
-    }
     let look = look_from(sc, s, b);
-    fill_less(less, sc, prefix, shares, before, look.parts(), s, a, b);
+    fill_less(less, sc, prefix, taken, look.parts(), s, a, b);
     best_after(sc, prefix, units, pairs, skips, less, look.parts(), s, a, b)
 }
 
 // The edge reward of a look from `b` in period `s` after one from `a`, by its reward without that look and what that look finds in each
-// cell of its row, in the parts of what is to come.
+// cell of its row, in the parts of what is to come after one look more; `step` are those of that one and of a drift.
 fn edge_by_shares(
     sc: &Scenario,
     prefix: &Path,
@@ -190,56 +173,26 @@ fn edge_by_shares(
     reward: u128,
     shares: &[u128],
     before: &[LookPart],
+    step: u128,
     s: u32,
     a: u8,
     b: u8,
 ) -> u128
-    requires period { IsLater sc.now prefix.now s }
+    requires middle { IsMiddle sc.now prefix.now s }
     requires to { b < sc.now.positions }
     requires units { HasUnits sc.now units.now }
     requires reward { reward ≡ reward_of sc.now prefix.now s b }
     requires before { before.now ≡ look_row sc.now.sweep (s - 1) a }
-    requires shares { HasShares sc.now prefix.now s a (parts_after sc.now prefix.now s) shares.now }
+    requires shares { HasShares sc.now prefix.now s a (parts_after_two sc.now prefix.now s) shares.now }
     requires room { length shares.now ≡ sc.now.cells }
+    requires step { step ≡ sc.now.drift.denominator * sc.now.sweep.denominator }
     ensures { result ≡ edge_reward_of sc.now prefix.now s a b }
 {
     let _after = prefix;
     let _from = a;
     sc.recall_sound();
-    reward - weighted(units, shares, before, s, b)
-}
-
-/// Writes the edge rewards of looks in period `s` from the moves of `a`, after a look from there.
-pub(crate) fn fill_edges(
-    edges: &mut [u128],
-    sc: &Scenario,
-    prefix: &Path,
-    units: &Units,
-    rewards: &[u128],
-    shares: &[u128],
-    before: &[LookPart],
-    s: u32,
-    a: u8,
-)
-    requires period { IsLater sc.now prefix.now s }
-    requires from { a < sc.now.positions }
-    requires units { HasUnits sc.now units.now }
-    requires width { length rewards.now ≡ sc.now.positions }
-    requires rewards { (b : ℕ) → Contains (moves_from sc.now.moves a) b → slice_index rewards.now b ≡ reward_of sc.now prefix.now s b }
-    requires before { before.now ≡ look_row sc.now.sweep (s - 1) a }
-    requires shares { HasShares sc.now prefix.now s a (parts_after sc.now prefix.now s) shares.now }
-    requires room { length shares.now ≡ sc.now.cells }
-    requires size { length edges.old ≡ sc.now.positions }
-    ensures each { (b : ℕ) → Contains (moves_from sc.now.moves a) b → slice_index edges.new b ≡ edge_reward_of sc.now prefix.now s a b }
-    ensures size { length edges.new ≡ length edges.old }
-{
-    let moves = sc.grid().moves(a);
-    for b in moves {
-        let reward = rewards[usize::from(*b)];
-        edges[usize::from(*b)] = edge_by_shares(
-            sc, prefix, units, reward, shares, before, s, a, *b,
-        );
-    }
+    let less = weighted(units, shares, before, s, b);
+    reward - less * step
 }
 
 /// Writes, from `here` on, the edge rewards of looks in period `s` from the moves of `a`, each with the greatest sum that follows it.
@@ -250,53 +203,74 @@ pub(crate) fn fill_sums(
     prefix: &Path,
     units: &Units,
     pairs: &[u128],
-    edges: &[u128],
+    rewards: &[u128],
     skips: &[u128],
     shares: &[u128],
+    taken: &[u128],
     before: &[LookPart],
     here: usize,
     s: u32,
     a: u8,
 )
-    requires period { IsLater sc.now prefix.now s }
+    requires middle { IsMiddle sc.now prefix.now s }
     requires here { here + sc.now.positions ≤ length earlier.old }
     requires from { a < sc.now.positions }
     requires near { IsNear sc.now.moves (s - 1 - length prefix.now) (last_of sc.now.start prefix.now) a }
     requires units { HasUnits sc.now units.now }
     requires size { length pairs.now ≡ sc.now.positions * sc.now.positions }
-    requires pairs { s < sc.now.horizon → HasPairs sc.now prefix.now s pairs.now }
-    requires width { length edges.now ≡ sc.now.positions }
-    requires edges { (b : ℕ) → Contains (moves_from sc.now.moves a) b → slice_index edges.now b ≡ edge_reward_of sc.now prefix.now s a b }
+    requires pairs { HasPairs sc.now prefix.now s pairs.now }
+    requires width { length rewards.now ≡ sc.now.positions }
+    requires rewards { (b : ℕ) → Contains (moves_from sc.now.moves a) b → slice_index rewards.now b ≡ reward_of sc.now prefix.now s b }
     requires wide { length skips.now ≡ sc.now.positions }
-    requires skips { s < sc.now.horizon → HasSkips sc.now prefix.now s a skips.now }
+    requires skips { HasSkips sc.now prefix.now s a skips.now }
     requires before { before.now ≡ look_row sc.now.sweep (s - 1) a }
-    requires shares { s < sc.now.horizon → HasShares sc.now prefix.now s a (parts_after_two sc.now prefix.now s) shares.now }
+    requires shares { HasShares sc.now prefix.now s a (parts_after_two sc.now prefix.now s) shares.now }
     requires room { length shares.now ≡ sc.now.cells }
+    requires taken { HasTaken sc.now prefix.now s a taken.now }
+    requires cells { length taken.now ≡ sc.now.cells }
     requires less { length less.old ≡ sc.now.cells }
-    ensures each { (b : ℕ) → Contains (moves_from sc.now.moves a) b → slice_index earlier.new (here + b) ≡
-        edge_reward_of sc.now prefix.now s a b +
-        greatest_pairs sc.now.moves (two_reward_of sc.now prefix.now) (sc.now.horizon - s) (s + 1) a b }
+    ensures each { (b : ℕ) → Contains (moves_from sc.now.moves a) b → slice_index earlier.new (here + b) ≡ edge_and_rest sc.now prefix.now s a b }
     ensures kept { (i : ℕ) → (i < here) ⊎ (here + sc.now.positions ≤ i) → slice_index earlier.new i ≡ slice_index earlier.old i }
     ensures size { length earlier.new ≡ length earlier.old }
     ensures less { length less.new ≡ length less.old }
 {
     let moves = sc.grid().moves(a);
+    let step = parts_of_step(sc);
     for b in moves {
-        let best = best_behind(
-            sc, prefix, units, pairs, skips, shares, less, before, s, a, *b,
+        let reward = rewards[usize::from(*b)];
+        let edge = edge_by_shares(sc, prefix, units, reward, shares, before, step, s, a, *b);
+        let best = best_behind(sc, prefix, units, pairs, skips, taken, less, s, a, *b);
+        put_at(
+            earlier,
+            here,
+            *b,
+            with_edge(sc, prefix, edge, best, s, a, *b),
         );
-        let sum = with_edge(sc, prefix, edges[usize::from(*b)], best, s, a, *b);
-        put_at(earlier, here, *b, sum);
     }
 }
 
-// An edge reward with the greatest sum that follows it.
-fn with_edge(sc: &Scenario, prefix: &Path, edge: u128, best: u128, s: u32, a: u8, b: u8) -> u128
+/// The parts of a drift and of a look.
+pub(crate) fn parts_of_step(sc: &Scenario) -> u128
+    ensures { result ≡ sc.now.drift.denominator * sc.now.sweep.denominator }
+{
+    sc.recall_sound();
+    u128::from(sc.drift().denominator()) * u128::from(sc.sweep().denominator())
+}
+
+/// An edge reward with the greatest sum that follows it.
+pub(crate) fn with_edge(
+    sc: &Scenario,
+    prefix: &Path,
+    edge: u128,
+    best: u128,
+    s: u32,
+    a: u8,
+    b: u8,
+) -> u128
     requires period { IsLater sc.now prefix.now s }
     requires edge { edge ≡ edge_reward_of sc.now prefix.now s a b }
     requires best { best ≡ greatest_pairs sc.now.moves (two_reward_of sc.now prefix.now) (sc.now.horizon - s) (s + 1) a b }
-    ensures { result ≡ edge_reward_of sc.now prefix.now s a b +
-        greatest_pairs sc.now.moves (two_reward_of sc.now prefix.now) (sc.now.horizon - s) (s + 1) a b }
+    ensures { result ≡ edge_and_rest sc.now prefix.now s a b }
 {
     let _after = prefix;
     let _looks = (s, a, b);

@@ -1,10 +1,11 @@
 //! The tables of the bound that remembers two looks.
 
-ghost use Rattle.std.specs.Prelude.{◌≡◌, ◌<◌, ◌≤◌, ◌+◌, ◌*◌, length, take, IfOk};
+ghost use Rattle.std.specs.Prelude.{◌≡◌, ◌<◌, ◌≤◌, ◌+◌, ◌*◌, ℕ, length, take, IsTrue, IfOk};
 ghost use Rattle.search_model.specs.Legal.{IsLegal, IsPath};
 ghost use Rattle.search_model.specs.Tracks.{value_of};
 ghost use Rattle.search_model.specs.Memory.{remembering_of};
 ghost use Rattle.longest_walk.specs.Near.{AreNear};
+ghost use Rattle.belief_update.specs.Flows.{IsOwn};
 ghost use Rattle.belief_update.specs.Onward.{IsOnward};
 ghost use Rattle.edge_bound.specs.Units.{HasUnits};
 ghost use Rattle.two_look_bound.specs.Rooms.{HasTwos};
@@ -13,7 +14,7 @@ use crate::along::sum_after;
 use crate::rows::{best_first, go_back};
 use crate::twos::twos_of;
 use belief_update::Onward;
-use edge_bound::Units;
+use edge_bound::{Units, has_own_looks};
 use exact_parts::NoMemory;
 use longest_walk::Near;
 use search_model::{Path, Scenario};
@@ -29,14 +30,14 @@ use std::marker::Model;
 /// each path that begins with the prefix.
 #[derive(Drop)]
 pub struct TwoLookTables {
-    // What looks find of units of mass, one and two periods after; made once.
-    units: Units,
+    // What looks find of units of mass two periods after, and whether each look covers its own cell alone; made once.
     twos: Units,
+    own: bool,
     // Per pair of positions, a row for each first one: the edge reward of the second, and the greatest sum from there on. Of one
     // period, and room for those of the period before.
     sums: Vec<u128>,
-    // What a look and the one after it find in each of their cells; and per position the reward of a look from it with no look after
-    // the prefix, its edge reward after one look, and what it finds with a look two periods before.
+    // What a look finds in each of its cells, what it takes of each cell a period later, and what a look finds of that in each of its
+    // cells; and per position what a look from it finds with a look two periods before, and its reward with no look after the prefix.
     rows: Vec<u128>,
 }
 
@@ -46,8 +47,8 @@ impl Model for TwoLookTables {
     ghost Value = { TwoLookRoom };
 
     ghost view = { λ e. record {
-      units = e.units;
       twos = e.twos;
+      own = e.own;
       sums = e.sums.items;
       rows = e.rows.items;
     } };
@@ -59,6 +60,7 @@ fn bound_from(
     onward: &Onward,
     units: &Units,
     twos: &Units,
+    own: bool,
     sums: &mut [u128],
     rows: &mut [u128],
     sc: &Scenario,
@@ -70,22 +72,18 @@ fn bound_from(
     requires onward { IsOnward sc.now prefix.now onward.now }
     requires units { HasUnits sc.now units.now }
     requires twos { HasTwos sc.now twos.now }
+    requires own { IsTrue own → (b : ℕ) → b < sc.now.positions → IsOwn sc.now b }
     requires sums { length sums.old ≡ sc.now.positions * sc.now.positions + sc.now.positions * sc.now.positions }
-    requires rows { length rows.old ≡ sc.now.cells + sc.now.cells + sc.now.positions + sc.now.positions + sc.now.positions }
+    requires rows { length rows.old ≡ sc.now.cells + sc.now.cells + sc.now.cells + sc.now.positions + sc.now.positions }
     requires legal { IsLegal sc.now prefix.now }
     requires short { length prefix.now < sc.now.horizon }
     ensures { result ≡ remembering_of sc.now 2 prefix.now }
 {
     sc.recall_sound();
     let positions = usize::from(sc.positions());
-    let cells = usize::from(sc.cells());
     let (pairs, earlier) = sums.split_at_mut(positions * positions);
-    let (shares, behind) = rows.split_at_mut(cells);
-    let (less, places) = behind.split_at_mut(cells);
-    let (rewards, others) = places.split_at_mut(positions);
-    let (edges, skips) = others.split_at_mut(positions);
     go_back(
-        pairs, earlier, rewards, edges, skips, shares, less, sc, near, prefix, onward, units, twos,
+        pairs, earlier, rows, sc, near, prefix, onward, units, twos, own,
     );
     value + best_first(sc, prefix, onward, pairs)
 }
@@ -108,40 +106,45 @@ fn sum_from(
     requires short { length prefix.now < sc.now.horizon }
     requires path { IsPath sc.now path.now }
     requires begins { take (length prefix.now) path.now ≡ prefix.now }
-    requires rows { length rows.old ≡ sc.now.cells + sc.now.cells + sc.now.positions + sc.now.positions + sc.now.positions }
+    requires rows { length rows.old ≡ sc.now.cells + sc.now.cells + sc.now.cells + sc.now.positions + sc.now.positions }
     ensures shown { result ≤ remembering_of sc.now 2 prefix.now }
     ensures rows { length rows.new ≡ length rows.old }
 {
     sc.recall_sound();
-    let cells = usize::from(sc.cells());
-    let (shares, behind) = rows.split_at_mut(cells);
-    let (less, _) = behind.split_at_mut(cells);
-    value + sum_after(sc, prefix, onward, units, twos, shares, less, path.cells())
+    value + sum_after(sc, prefix, onward, units, twos, rows, path.cells())
 }
 
 impl TwoLookTables {
     ghost use Rattle.two_look_bound.specs.Rooms.{AreTablesFor};
 
-    /// Tables for a scenario. Only this call takes memory.
-    pub fn tables(alloc: Global, sc: &Scenario) -> Result<TwoLookTables, NoMemory>
+    /// Tables for a scenario, by what looks find of units of mass a period after. Only this call takes memory.
+    pub fn tables(alloc: Global, sc: &Scenario, units: &Units) -> Result<TwoLookTables, NoMemory>
+        requires units { HasUnits sc.now units.now }
         ensures { IfOk result (AreTablesFor sc.now) }
     {
         let positions = usize::from(sc.positions());
         let cells = usize::from(sc.cells());
-        let units = Units::tables(alloc, sc)?;
         Ok(TwoLookTables {
-            twos: twos_of(alloc, sc, &units)?,
-            units,
+            twos: twos_of(alloc, sc, units)?,
+            own: has_own_looks(sc),
             sums: vec![in alloc; 0; positions * positions + positions * positions]?,
-            rows: vec![in alloc; 0; cells + cells + positions + positions + positions]?,
+            rows: vec![in alloc; 0; cells + cells + cells + positions + positions]?,
         })
     }
 
-    /// The bound of a legal prefix shorter than the horizon, in parts of the whole weight, by the positions within reach and the
-    /// beliefs of the periods after the prefix. Takes no memory.
-    pub fn bound(&mut self, sc: &Scenario, near: &Near, onward: &Onward, prefix: &Path) -> u128
+    /// The bound of a legal prefix shorter than the horizon, in parts of the whole weight, by the positions within reach, what looks
+    /// find of units of mass a period after, and the beliefs of the periods after the prefix. Takes no memory.
+    pub fn bound(
+        &mut self,
+        sc: &Scenario,
+        near: &Near,
+        units: &Units,
+        onward: &Onward,
+        prefix: &Path,
+    ) -> u128
         requires made { AreTablesFor sc.now self.old }
         requires near { AreNear sc.now.moves sc.now.horizon near.now }
+        requires units { HasUnits sc.now units.now }
         requires legal { IsLegal sc.now prefix.now }
         requires short { length prefix.now < sc.now.horizon }
         requires onward { IsOnward sc.now prefix.now onward.now }
@@ -151,8 +154,9 @@ impl TwoLookTables {
         bound_from(
             onward.value(),
             onward,
-            &self.units,
+            units,
             &self.twos,
+            self.own,
             &mut self.sums,
             &mut self.rows,
             sc,
@@ -167,6 +171,7 @@ impl TwoLookTables {
         &mut self,
         sc: &Scenario,
         near: &Near,
+        units: &Units,
         onward: &Onward,
         prefix: &Path,
         path: &Path,
@@ -174,6 +179,7 @@ impl TwoLookTables {
     ) -> u128
         requires made { AreTablesFor sc.now self.old }
         requires near { AreNear sc.now.moves sc.now.horizon near.now }
+        requires units { HasUnits sc.now units.now }
         requires legal { IsLegal sc.now prefix.now }
         requires short { length prefix.now < sc.now.horizon }
         requires onward { IsOnward sc.now prefix.now onward.now }
@@ -187,7 +193,7 @@ impl TwoLookTables {
         let shown = sum_from(
             value,
             onward,
-            &self.units,
+            units,
             &self.twos,
             &mut self.rows,
             sc,
@@ -198,8 +204,9 @@ impl TwoLookTables {
             bound_from(
                 value,
                 onward,
-                &self.units,
+                units,
                 &self.twos,
+                self.own,
                 &mut self.sums,
                 &mut self.rows,
                 sc,

@@ -1,14 +1,16 @@
 //! What a look takes of the looks one and two periods after it.
 
-ghost use Rattle.std.specs.Prelude.{◌≡◌, ◌<◌, ◌≤◌, ◌+◌, ◌-◌, ◌*◌, ◌^◌, length, All};
+ghost use Rattle.std.specs.Prelude.{◌≡◌, ◌<◌, ◌≤◌, ◌+◌, ◌-◌, ◌*◌, ◌^◌, ℕ, length, slice_index, All};
+ghost use Rattle.drift_chain.specs.DriftRows.{part_in};
 ghost use Rattle.sweep_table.specs.LookParts.{look_row};
 ghost use Rattle.edge_bound.specs.Moves.{HasShares};
 ghost use Rattle.edge_bound.specs.Units.{HasUnits, place_of};
 ghost use Rattle.longest_walk.specs.Near.{AreNear};
 ghost use Rattle.two_look_bound.specs.Pairs.{IsMiddle};
-ghost use Rattle.two_look_bound.specs.Taken.{weighted_sum, taken_to, parts_after_two, skip_of, joint_of, HasLess, HasSkips};
+ghost use Rattle.two_look_bound.specs.Taken.{weighted_sum, parts_after_two, skip_of, joint_of, HasTaken, HasLess, HasSkips};
 ghost use Rattle.two_look_bound.specs.Rooms.{HasTwos};
 
+use drift_chain::DriftPart;
 use edge_bound::Units;
 use longest_walk::Near;
 use search_model::{Path, Scenario};
@@ -31,33 +33,55 @@ pub(crate) fn weighted(table: &Units, shares: &[u128], row: &[LookPart], t: u32,
     sum
 }
 
-// What a look from `a` in the period before `s` takes of the mass of a cell in period `s`, by what it finds in each cell of its row,
-// in the parts of what is to come.
-fn taken_mass(
+// Writes zeros.
+fn clear(taken: &mut [u128])
+    ensures each { (e : ℕ) → e < length taken.old → slice_index taken.new e ≡ 0 }
+    ensures size { length taken.new ≡ length taken.old }
+{
+    taken.fill(0);
+}
+
+// Adds what a row of the drift sends on of a share.
+fn add_row(taken: &mut [u128], row: &[DriftPart], share: u128)
+    requires entries { All (λ entry. entry.cell < length taken.old) row.now }
+    requires fits { (d : ℕ) → d < length taken.old → slice_index taken.old d + share * part_in row.now d < 2 ^ 127 }
+    ensures each { (d : ℕ) → d < length taken.old →
+        slice_index taken.new d ≡ slice_index taken.old d + share * part_in row.now d }
+    ensures size { length taken.new ≡ length taken.old }
+{
+    for entry in row {
+        taken[entry.cell as usize] += share * u128::from(entry.part);
+    }
+}
+
+/// Writes what a look from `a` in the period before `s` takes of the mass of each cell in period `s`, by what it finds in each cell of
+/// its row, in the parts of what is to come.
+pub(crate) fn fill_taken(
+    taken: &mut [u128],
     sc: &Scenario,
     prefix: &Path,
     shares: &[u128],
     before: &[LookPart],
     s: u32,
     a: u8,
-    cell: u8,
-) -> u128
+)
     requires middle { IsMiddle sc.now prefix.now s }
-    requires cell { cell < sc.now.cells }
     requires before { before.now ≡ look_row sc.now.sweep (s - 1) a }
     requires shares { HasShares sc.now prefix.now s a (parts_after_two sc.now prefix.now s) shares.now }
     requires room { length shares.now ≡ sc.now.cells }
-    ensures { result ≡ taken_to sc.now prefix.now s a cell * parts_after_two sc.now prefix.now s }
+    requires size { length taken.old ≡ sc.now.cells }
+    ensures each { HasTaken sc.now prefix.now s a taken.new }
+    ensures size { length taken.new ≡ length taken.old }
 {
     let _after = prefix;
     let _from = a;
     sc.recall_sound();
-    let mut sum = 0;
+    clear(taken);
     for i in 0..before.len() {
-        let part = sc.drift().part(s - 1, before[i].cell, cell);
-        sum += shares[i] * u128::from(part);
+        let share = shares[i];
+        let row = sc.drift().row(s - 1, before[i].cell);
+        add_row(taken, row, share);
     }
-    sum
 }
 
 /// Writes what a look from `b` in period `s` would find, in each cell of its row, of what a look from `a` in the period before takes.
@@ -65,27 +89,25 @@ pub(crate) fn fill_less(
     less: &mut [u128],
     sc: &Scenario,
     prefix: &Path,
-    shares: &[u128],
-    before: &[LookPart],
+    taken: &[u128],
     row: &[LookPart],
     s: u32,
     a: u8,
     b: u8,
 )
     requires middle { IsMiddle sc.now prefix.now s }
-    requires before { before.now ≡ look_row sc.now.sweep (s - 1) a }
     requires row { row.now ≡ look_row sc.now.sweep s b }
-    requires shares { HasShares sc.now prefix.now s a (parts_after_two sc.now prefix.now s) shares.now }
-    requires room { length shares.now ≡ sc.now.cells }
+    requires taken { HasTaken sc.now prefix.now s a taken.now }
+    requires room { length taken.now ≡ sc.now.cells }
     requires size { length less.old ≡ sc.now.cells }
     ensures each { HasLess sc.now prefix.now s a b less.new }
     ensures size { length less.new ≡ length less.old }
 {
-    let _from = b;
+    let _after = prefix;
+    let _looks = (s, a, b);
     let whole = sc.sweep().denominator();
     for i in 0..row.len() {
-        let mass = taken_mass(sc, prefix, shares, before, s, a, row[i].cell);
-        let found = mass * u128::from(whole - row[i].part);
+        let found = taken[row[i].cell as usize] * u128::from(whole - row[i].part);
         less[i] = found;
     }
 }

@@ -11,8 +11,7 @@ loop-n-init c =
     rw c.len-n.ensures.value (record {
       sum = rw (one, two) (omega arith);
       start = omega arith;
-      shares = refl;
-      less = refl;
+      rows = refl;
     })
 
 pub overflow_add-sum : goal.overflow_add-sum
@@ -26,8 +25,7 @@ loop-n-preserved c =
     record {
       sum = rw c.two_reward-sum.ensures.reward (sum_pairs-more r c.args.path.now c.loop-n.n c.loop-n.sum _ c.loop-n-test.true (omega (arith, c.loop-n.invariant.start)) c.loop-n.invariant.sum);
       start = omega (arith, c.loop-n.invariant.start);
-      shares = c.two_reward-sum.ensures.shares ∙ c.loop-n.invariant.shares;
-      less = c.two_reward-sum.ensures.less ∙ c.loop-n.invariant.less;
+      rows = c.two_reward-sum.ensures.rows ∙ c.loop-n.invariant.rows;
     }
 
 pub returns-clause-sum : goal.returns-clause-sum

@@ -8,6 +8,5 @@ invariant-loop-n l = record {
   sum : l.sum + sum_pairs (two_reward_of l.sc l.prefix) (l.n + 1) (slice_index l.path (l.n - 2)) (slice_index l.path (l.n - 1)) (drop l.n l.path) ≡
       sum_pairs (two_reward_of l.sc l.prefix) (length l.prefix + 2 + 1) (slice_index l.path (length l.prefix)) (slice_index l.path (length l.prefix + 1)) (drop (length l.prefix + 2) l.path);
   start : length l.prefix + 2 ≤ l.n;
-  shares : length l.shares ≡ length l.initial.shares;
-  less : length l.less ≡ length l.initial.less;
+  rows : length l.rows ≡ length l.initial.rows;
 }

@@ -10,8 +10,8 @@ fill_shares-requires-clause-fits c =
     let parts : c.later_parts-parts.result ≡ parts_after_two c.args.sc.now c.args.prefix.now c.args.s = rw (c.later_parts-parts.ensures, c.len.ensures.value) refl in
     rw parts (found_two-within c.args.sc.now c.recall_sound.ensures c.args.prefix.now c.args.s c.requires.middle c.args.a)
 
-pub fill_less-requires-clause-shares : goal.fill_less-requires-clause-shares
-fill_less-requires-clause-shares c =
+pub fill_taken-requires-clause-shares : goal.fill_taken-requires-clause-shares
+fill_taken-requires-clause-shares c =
     let parts : c.later_parts-parts.result ≡ parts_after_two c.args.sc.now c.args.prefix.now c.args.s = rw (c.later_parts-parts.ensures, c.len.ensures.value) refl in
     rw parts at c.fill_shares.ensures.each
 

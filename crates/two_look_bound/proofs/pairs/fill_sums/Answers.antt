@@ -1,11 +1,25 @@
 use Rattle.std.proofs.Common.{ℕ, ◌≡◌, ◌+◌, ◌-◌, ◌<◌, length, slice_index, inl, inr, ◌∙◌, arith, get_or-set_other}
 use Rattle.std.proofs.Math.ListN.{length-set}
 use Rattle.search_grid.specs.Moves.{moves_from}
-use Rattle.search_model.specs.Edge.{edge_reward_of}
 use Rattle.edge_bound.proofs.Walking.{listed_move}
-use Rattle.two_look_bound.specs.Pairs.{two_reward_of, greatest_pairs}
+use Rattle.two_look_bound.specs.Pairs.{edge_and_rest}
 use Rattle.two_look_bound.proofs.Walking.{listed_inside, row_more, filled_all}
 use Rattle.two_look_bound.proofs.pairs.fill_sums.Goals as goal
+
+pub bounds-rewards-from : goal.bounds-rewards-from
+bounds-rewards-from c =
+    let are : c.moves-moves.result.now ≡ moves_from c.args.sc.now.moves c.args.a = rw (← c.grid.ensures.value) c.moves-moves.ensures.value in
+    rw (c.from.ensures, c.requires.width) (listed_inside c.args.sc.now c.grid.ensures.sound c.args.a c.loop-b.b-index c.moves-moves.result.now c.requires.from are c.loop-b-test.true)
+
+pub edge_by_shares-edge-requires-clause-reward : goal.edge_by_shares-edge-requires-clause-reward
+edge_by_shares-edge-requires-clause-reward c =
+    let are : c.moves-moves.result.now ≡ moves_from c.args.sc.now.moves c.args.a = rw (← c.grid.ensures.value) c.moves-moves.ensures.value in
+    rw c.from.ensures (c.requires.rewards _ (listed_move c.args.sc.now c.args.a c.loop-b.b-index c.moves-moves.result.now are c.loop-b-test.true))
+
+pub edge_by_shares-edge-requires-clause-to : goal.edge_by_shares-edge-requires-clause-to
+edge_by_shares-edge-requires-clause-to c =
+    let are : c.moves-moves.result.now ≡ moves_from c.args.sc.now.moves c.args.a = rw (← c.grid.ensures.value) c.moves-moves.ensures.value in
+    listed_inside c.args.sc.now c.grid.ensures.sound c.args.a c.loop-b.b-index c.moves-moves.result.now c.requires.from are c.loop-b-test.true
 
 pub best_behind-best-requires-clause-step : goal.best_behind-best-requires-clause-step
 best_behind-best-requires-clause-step c =
@@ -21,15 +35,13 @@ pub loop-b-preserved : goal.loop-b-preserved
 loop-b-preserved c =
     let are : c.moves-moves.result.now ≡ moves_from c.args.sc.now.moves c.args.a = rw (← c.grid.ensures.value) c.moves-moves.ensures.value in
     let p = c.args.sc.now in
-    let q = c.args.prefix.now in
-    let s = c.args.s in
     let moves = c.moves-moves.result.now in
     let b = slice_index moves c.loop-b.b-index in
     let there = listed_inside p c.grid.ensures.sound c.args.a c.loop-b.b-index moves c.requires.from are c.loop-b-test.true in
     let inside : c.args.here + b < length c.loop-b.earlier = omega (arith, there, c.requires.here, c.loop-b.invariant.size) in
-    let f : ℕ → ℕ = λ d. edge_reward_of p q s c.args.a d + greatest_pairs p.moves (two_reward_of p q) (p.horizon - s) (s + 1) c.args.a d in
+    let f : ℕ → ℕ = edge_and_rest p c.args.prefix.now c.args.s c.args.a in
     rw c.put_at.ensures (record {
-      each = row_more f c.loop-b.earlier moves c.args.here c.loop-b.b-index _ inside c.with_edge-sum.ensures c.loop-b.invariant.each;
+      each = row_more f c.loop-b.earlier moves c.args.here c.loop-b.b-index _ inside c.with_edge.ensures c.loop-b.invariant.each;
       kept = λ i outside. get_or-set_other c.loop-b.earlier (c.args.here + b) i _ 0 (λ e. elim outside [ inl before ↦ omega (arith, before, e) | inr behind ↦ omega (arith, behind, e, there) ]) ∙ c.loop-b.invariant.kept i outside;
       size = length-set _ _ _ ∙ c.loop-b.invariant.size;
       less = c.best_behind-best.ensures.less ∙ c.loop-b.invariant.less;
@@ -37,28 +49,12 @@ loop-b-preserved c =
 
 pub returns-clause-each : goal.returns-clause-each
 returns-clause-each c =
-    let p = c.args.sc.now in
-    let q = c.args.prefix.now in
-    let s = c.args.s in
-    let are : c.moves-moves.result.now ≡ moves_from p.moves c.args.a = rw (← c.grid.ensures.value) c.moves-moves.ensures.value in
-    filled_all (λ d. slice_index c.loop-b.earlier (c.args.here + d) ≡ edge_reward_of p q s c.args.a d + greatest_pairs p.moves (two_reward_of p q) (p.horizon - s) (s + 1) c.args.a d)
-    c.moves-moves.result.now (moves_from p.moves c.args.a) c.loop-b.b-index are c.loop-b-test.false c.loop-b.invariant.each
+    let are : c.moves-moves.result.now ≡ moves_from c.args.sc.now.moves c.args.a = rw (← c.grid.ensures.value) c.moves-moves.ensures.value in
+    filled_all (λ d. slice_index c.loop-b.earlier (c.args.here + d) ≡ edge_and_rest c.args.sc.now c.args.prefix.now c.args.s c.args.a d)
+    c.moves-moves.result.now (moves_from c.args.sc.now.moves c.args.a) c.loop-b.b-index are c.loop-b-test.false c.loop-b.invariant.each
 
 pub put_at-requires : goal.put_at-requires
 put_at-requires c =
-    let p = c.args.sc.now in
-    let are : c.moves-moves.result.now ≡ moves_from p.moves c.args.a = rw (← c.grid.ensures.value) c.moves-moves.ensures.value in
-    let there = listed_inside p c.grid.ensures.sound c.args.a c.loop-b.b-index c.moves-moves.result.now c.requires.from are c.loop-b-test.true in
+    let are : c.moves-moves.result.now ≡ moves_from c.args.sc.now.moves c.args.a = rw (← c.grid.ensures.value) c.moves-moves.ensures.value in
+    let there = listed_inside c.args.sc.now c.grid.ensures.sound c.args.a c.loop-b.b-index c.moves-moves.result.now c.requires.from are c.loop-b-test.true in
     omega (arith, there, c.requires.here, c.loop-b.invariant.size)
-
-pub with_edge-sum-requires-clause-edge : goal.with_edge-sum-requires-clause-edge
-with_edge-sum-requires-clause-edge c =
-    let p = c.args.sc.now in
-    let are : c.moves-moves.result.now ≡ moves_from p.moves c.args.a = rw (← c.grid.ensures.value) c.moves-moves.ensures.value in
-    rw c.from.ensures (c.requires.edges _ (listed_move p c.args.a c.loop-b.b-index c.moves-moves.result.now are c.loop-b-test.true))
-
-pub bounds-edges-from : goal.bounds-edges-from
-bounds-edges-from c =
-    let p = c.args.sc.now in
-    let are : c.moves-moves.result.now ≡ moves_from p.moves c.args.a = rw (← c.grid.ensures.value) c.moves-moves.ensures.value in
-    rw (c.from.ensures, c.requires.width) (listed_inside p c.grid.ensures.sound c.args.a c.loop-b.b-index c.moves-moves.result.now c.requires.from are c.loop-b-test.true)

@@ -2,9 +2,8 @@ use Rattle.std.proofs.Common.{ℕ, ◌≡◌, ◌+◌, ◌-◌, ◌*◌, ◌<◌
 use Rattle.std.proofs.lemmas.Bool.{cases_eq}
 use Rattle.std.proofs.lemmas.List.Elements.{All-get_or, Contains-get_or}
 use Rattle.search_grid.specs.Moves.{moves_from}
-use Rattle.search_model.specs.Edge.{edge_reward_of}
 use Rattle.edge_bound.proofs.UnitTable.{row_inside}
-use Rattle.two_look_bound.specs.Pairs.{two_reward_of, greatest_pairs}
+use Rattle.two_look_bound.specs.Pairs.{edge_and_rest}
 use Rattle.two_look_bound.proofs.Walking.{move_inside, apart_rows}
 use Rattle.two_look_bound.proofs.rows.fill_row.Goals as goal
 
@@ -20,7 +19,7 @@ fill_pairs-requires-clause-here c =
     let p = c.args.sc.now in
     let a = inside p.positions c.args.some.now c.loop-a.a-index c.requires.inside c.loop-a-test.true in
     let here : c.from.result * c.from-positions.result ≡ slice_index c.args.some.now c.loop-a.a-index * c.args.sc.now.positions = rw (c.from.ensures, c.from-positions.ensures, c.positions.ensures.value) refl in
-    rw here (omega (arith, row_inside p.positions p.positions (slice_index c.args.some.now c.loop-a.a-index) a, c.requires.room, c.loop-a.invariant.room))
+    rw here (omega (arith, row_inside p.positions p.positions (slice_index c.args.some.now c.loop-a.a-index) a, c.requires.size, c.loop-a.invariant.size))
 
 pub fill_pairs-requires-clause-rewards : goal.fill_pairs-requires-clause-rewards
 fill_pairs-requires-clause-rewards c b move = c.requires.rewards (slice_index c.args.some.now c.loop-a.a-index) b (Contains-get_or c.args.some.now c.loop-a.a-index 0 c.loop-a-test.true) move
@@ -36,7 +35,7 @@ loop-a-preserved c =
     let each = rw here at c.fill_pairs.ensures.each in
     let kept = rw here at c.fill_pairs.ensures.kept in
     let filled : (j b : ℕ) → j < c.loop-a.a-index + 1 → Contains (moves_from p.moves (slice_index some j)) b →
-    slice_index c.fill_pairs.new.earlier (slice_index some j * p.positions + b) ≡ edge_reward_of p q s (slice_index some j) b + greatest_pairs p.moves (two_reward_of p q) (p.horizon - s) (s + 1) (slice_index some j) b =
+    slice_index c.fill_pairs.new.earlier (slice_index some j * p.positions + b) ≡ edge_and_rest p q s (slice_index some j) b =
     λ j b short move. elim (cases_eq (slice_index some j) a) [
       | inl same ↦ rw same (each b (rw same at move))
       | inr apart ↦
@@ -48,9 +47,6 @@ loop-a-preserved c =
     ] in
     record {
       each = filled;
-      room = c.fill_pairs.ensures.size ∙ c.loop-a.invariant.room;
-      edges = c.fill_pairs.ensures.edges ∙ c.loop-a.invariant.edges;
-      skips = c.fill_pairs.ensures.skips ∙ c.loop-a.invariant.skips;
-      shares = c.fill_pairs.ensures.shares ∙ c.loop-a.invariant.shares;
-      less = c.fill_pairs.ensures.less ∙ c.loop-a.invariant.less;
+      size = c.fill_pairs.ensures.size ∙ c.loop-a.invariant.size;
+      room = c.fill_pairs.ensures.room ∙ c.loop-a.invariant.room;
     }

@@ -1,4 +1,4 @@
-use Rattle.std.proofs.Common.{ℕ, ◌≡◌, ◌*◌, ◌<◌, length, slice_index_or, ◌∙◌, arith}
+use Rattle.std.proofs.Common.{ℕ, ◌≡◌, ◌*◌, ◌<◌, length, slice_index, slice_index_or, ◌∙◌, arith}
 use Rattle.std.proofs.Math.ListN.{length-set}
 use Rattle.std.proofs.Math.Nat.{mul-le-mul_right}
 use Rattle.std.proofs.lemmas.List.Sums.{sum_by_more_le}
@@ -11,9 +11,10 @@ use Rattle.two_look_bound.specs.Taken.{taken_to, parts_after_two}
 use Rattle.two_look_bound.proofs.Fitting.{less-within}
 use Rattle.two_look_bound.proofs.taken.fill_less.Goals as goal
 
-pub taken_mass-mass-requires-clause-cell : goal.taken_mass-mass-requires-clause-cell
-taken_mass-mass-requires-clause-cell c =
-    rw c.requires.row (covered_cell c.args.sc.now c.sweep.ensures.sound c.args.s c.args.b c.loop-i.i (misses 0 0) (rw c.requires.row at c.loop-i-test.true))
+pub bounds-taken-row : goal.bounds-taken-row
+bounds-taken-row c =
+    let cell = covered_cell c.args.sc.now c.sweep.ensures.sound c.args.s c.args.b c.loop-i.i (misses 0 0) (rw c.requires.row at c.loop-i-test.true) in
+    rw c.requires.row (omega (arith, cell, c.requires.room))
 
 pub overflow_sub-whole : goal.overflow_sub-whole
 overflow_sub-whole c =
@@ -22,8 +23,10 @@ overflow_sub-whole c =
 
 -- what would be found in the cell
 less_is : (c : goal.After-from) → let p = c.args.sc.now in
-    c.taken_mass-mass.result * c.from.result ≡ found_in p (taken_to p c.args.prefix.now c.args.s c.args.a) (slice_index_or c.args.row.now c.loop-i.i (misses 0 0)) * parts_after_two p c.args.prefix.now c.args.s
-less_is c = rw (c.taken_mass-mass.ensures, c.from.ensures, c.denominator-whole.ensures.value, c.sweep.ensures.value) (omega arith)
+    slice_index c.args.taken.now (slice_index_or c.args.row.now c.loop-i.i (misses 0 0)).cell * c.from.result ≡ found_in p (taken_to p c.args.prefix.now c.args.s c.args.a) (slice_index_or c.args.row.now c.loop-i.i (misses 0 0)) * parts_after_two p c.args.prefix.now c.args.s
+less_is c =
+    let cell = rw (← c.requires.row) at (covered_cell c.args.sc.now c.sweep.ensures.sound c.args.s c.args.b c.loop-i.i (misses 0 0) (rw c.requires.row at c.loop-i-test.true)) in
+    rw (c.requires.taken _ cell, c.from.ensures, c.denominator-whole.ensures.value, c.sweep.ensures.value) (omega arith)
 
 pub overflow_mul-found : goal.overflow_mul-found
 overflow_mul-found c =

@@ -1,0 +1,64 @@
+use Rattle.std.proofs.Common.{◌≡◌, ◌+◌, ◌-◌, ◌*◌, ℕ, inr, sym, refl, ◌∙◌, arith}
+use Rattle.search_grid.specs.Moves.{moves_from}
+use Rattle.longest_walk.proofs.RowSteps.{best_more, best_all}
+use Rattle.edge_bound.proofs.CellShares.{own_inside}
+use Rattle.edge_bound.proofs.Walking.{listed_move}
+use Rattle.two_look_bound.specs.Pairs.{two_and_rest}
+use Rattle.two_look_bound.proofs.Walking.{sums_behind, listed_inside, pair_there, pair_inside}
+use Rattle.two_look_bound.proofs.own.best_own.Goals as goal
+
+pub sum_at-gain-requires : goal.sum_at-gain-requires
+sum_at-gain-requires c =
+    let p = c.args.sc.now in
+    let are : c.moves-moves.result.now ≡ moves_from p.moves c.args.b = rw (← c.grid.ensures.value) c.moves-moves.ensures.value in
+    let to = listed_inside p c.grid.ensures.sound c.args.b c.loop-c.c-index c.moves-moves.result.now c.requires.to are c.loop-c-test.true in
+    rw (c.from.ensures, c.from-2.ensures, c.positions.ensures.value) (omega (arith, pair_inside p.positions c.args.b _ c.requires.to to, c.requires.size))
+
+pub bounds-skips-from : goal.bounds-skips-from
+bounds-skips-from c =
+    let p = c.args.sc.now in
+    let are : c.moves-moves.result.now ≡ moves_from p.moves c.args.b = rw (← c.grid.ensures.value) c.moves-moves.ensures.value in
+    rw (c.from-in-loop-c.ensures, c.requires.width) (listed_inside p c.grid.ensures.sound c.args.b c.loop-c.c-index c.moves-moves.result.now c.requires.to are c.loop-c-test.true)
+
+pub better_own-best-requires-clause-to : goal.better_own-best-requires-clause-to
+better_own-best-requires-clause-to c =
+    let are : c.moves-moves.result.now ≡ moves_from c.args.sc.now.moves c.args.b = rw (← c.grid.ensures.value) c.moves-moves.ensures.value in
+    listed_inside c.args.sc.now c.grid.ensures.sound c.args.b c.loop-c.c-index c.moves-moves.result.now c.requires.to are c.loop-c-test.true
+
+pub better_own-best-requires-clause-outer : goal.better_own-best-requires-clause-outer
+better_own-best-requires-clause-outer c =
+    let are : c.moves-moves.result.now ≡ moves_from c.args.sc.now.moves c.args.b = rw (← c.grid.ensures.value) c.moves-moves.ensures.value in
+    let next = listed_move c.args.sc.now c.args.b c.loop-c.c-index c.moves-moves.result.now are c.loop-c-test.true in
+    rw c.from-in-loop-c.ensures (c.requires.skips _ (inr (c.args.b, inr (c.args.a, refl, c.requires.step), next)))
+
+pub better_own-best-requires-clause-gain : goal.better_own-best-requires-clause-gain
+better_own-best-requires-clause-gain c =
+    let p = c.args.sc.now in
+    let are : c.moves-moves.result.now ≡ moves_from p.moves c.args.b = rw (← c.grid.ensures.value) c.moves-moves.ensures.value in
+    let next = listed_move p c.args.b c.loop-c.c-index c.moves-moves.result.now are c.loop-c-test.true in
+    rw (c.sum_at-gain.ensures, c.from.ensures, c.from-2.ensures, c.positions.ensures.value) (pair_there p c.args.prefix.now c.args.pairs.now c.args.s c.args.a c.args.b _ c.requires.middle.later c.requires.near c.requires.step next c.requires.pairs)
+
+pub loop-c-preserved : goal.loop-c-preserved
+loop-c-preserved c =
+    let p = c.args.sc.now in
+    let q = c.args.prefix.now in
+    let s = c.args.s in
+    let f : ℕ → ℕ = two_and_rest p q s c.args.a c.args.b in
+    rw c.better_own-best.ensures
+    (best_more f c.moves-moves.result.now c.loop-c.c-index c.loop-c.best _ c.loop-c-test.true c.loop-c.invariant)
+
+pub returns : goal.returns
+returns c =
+    let are : c.moves-moves.result.now ≡ moves_from c.args.sc.now.moves c.args.b = rw (← c.grid.ensures.value) c.moves-moves.ensures.value in
+    let p = c.args.sc.now in
+    let q = c.args.prefix.now in
+    let s = c.args.s in
+    let f : ℕ → ℕ = two_and_rest p q s c.args.a c.args.b in
+    let all = best_all f c.moves-moves.result.now c.loop-c.c-index c.loop-c.best _ c.loop-c-test.false c.loop-c.invariant in
+    rw are at all
+    ∙ sym (sums_behind p q s c.args.a c.args.b c.grid.ensures.sound c.requires.middle.last c.requires.to)
+
+pub place-place-requires-clause-inside : goal.place-place-requires-clause-inside
+place-place-requires-clause-inside c =
+    let own = own_inside c.args.sc.now c.args.b c.grid.ensures.sound c.requires.own in
+    c.requires.units.inside (c.args.s + 1) c.args.b 0 (omega (arith, c.requires.middle.later)) c.requires.middle.last own (omega (arith, c.requires.to))

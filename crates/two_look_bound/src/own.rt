@@ -1,0 +1,289 @@
+//! The greatest sums behind a pair of looks, where looks cover their own cells alone.
+
+ghost use Rattle.std.specs.Prelude.{◌≡◌, ◌<◌, ◌≤◌, ◌+◌, ◌-◌, ◌*◌, ◌⊎◌, ℕ, length, max, slice_index, Contains};
+ghost use Rattle.search_grid.specs.Moves.{moves_from};
+ghost use Rattle.search_model.specs.Legal.{last_of};
+ghost use Rattle.search_model.specs.Bounds.{reward_of};
+ghost use Rattle.search_model.specs.Edge.{edge_reward_of};
+ghost use Rattle.longest_walk.specs.Near.{IsNear, AreNear};
+ghost use Rattle.belief_update.specs.Flows.{IsOwn};
+ghost use Rattle.edge_bound.specs.Found.{one_of};
+ghost use Rattle.edge_bound.specs.Units.{HasUnits, place_of};
+ghost use Rattle.two_look_bound.specs.Pairs.{two_reward_of, greatest_pairs, pair_sum, edge_and_rest, two_and_rest, HasPairs, IsMiddle};
+ghost use Rattle.two_look_bound.specs.Taken.{share_of, skip_of, HasSkips};
+ghost use Rattle.two_look_bound.specs.Rooms.{HasTwos};
+
+use crate::pairs::{gain_after, parts_of_step, put_at, sum_at, with_edge};
+use edge_bound::Units;
+use longest_walk::Near;
+use search_model::{Path, Scenario};
+
+// What looks from `a` in the period before `s` and `c` in the one after it would find one after the other, with none between them: by
+// what the look from `a` finds, times the denominator of looks, and where the numbers of its cell begin.
+fn skip_own(
+    sc: &Scenario,
+    prefix: &Path,
+    twos: &Units,
+    scaled: u128,
+    place: usize,
+    s: u32,
+    a: u8,
+    c: u8,
+) -> u128
+    requires middle { IsMiddle sc.now prefix.now s }
+    requires own { IsOwn sc.now a }
+    requires to { c < sc.now.positions }
+    requires twos { HasTwos sc.now twos.now }
+    requires scaled { scaled ≡ share_of sc.now prefix.now s a * sc.now.sweep.denominator }
+    requires place { place ≡ place_of twos.now s a 0 }
+    ensures { result ≡ skip_of sc.now prefix.now s a c }
+{
+    let _after = prefix;
+    let _look = (s, a);
+    sc.recall_sound();
+    let two = twos.at(place, c);
+    scaled * u128::from(two)
+}
+
+/// Writes the same for all `c` within two moves of `a`, by what the look from `a` finds.
+pub(crate) fn fill_skips_own(
+    skips: &mut [u128],
+    sc: &Scenario,
+    near: &Near,
+    prefix: &Path,
+    twos: &Units,
+    share: u128,
+    s: u32,
+    a: u8,
+)
+    requires near { AreNear sc.now.moves sc.now.horizon near.now }
+    requires middle { IsMiddle sc.now prefix.now s }
+    requires own { IsOwn sc.now a }
+    requires from { a < sc.now.positions }
+    requires twos { HasTwos sc.now twos.now }
+    requires share { share ≡ share_of sc.now prefix.now s a }
+    requires size { length skips.old ≡ sc.now.positions }
+    ensures each { HasSkips sc.now prefix.now s a skips.new }
+    ensures size { length skips.new ≡ length skips.old }
+{
+    sc.recall_sound();
+    let two = near.within(sc.grid(), a, 2);
+    let scaled = share * u128::from(sc.sweep().denominator());
+    let place = twos.place(s, a);
+    for c in two {
+        skips[usize::from(*c)] = skip_own(sc, prefix, twos, scaled, place, s, a, *c);
+    }
+}
+
+// The greater of a number and the reward of a look from `c` after those from `a` and `b`, with the greatest sum that follows it, by
+// its edge reward with that sum, what looks from `a` and `c` would find, what looks from `a` and `b` would, and where the numbers of
+// the cell of `b` begin. It is no more than the edge reward with the sum, so where the number is no less, nothing is computed.
+fn better_own(
+    sc: &Scenario,
+    prefix: &Path,
+    units: &Units,
+    less: u128,
+    place: usize,
+    best: u128,
+    gain: u128,
+    outer: u128,
+    s: u32,
+    a: u8,
+    b: u8,
+    c: u8,
+) -> u128
+    requires middle { IsMiddle sc.now prefix.now s }
+    requires before { IsOwn sc.now a }
+    requires own { IsOwn sc.now b }
+    requires to { c < sc.now.positions }
+    requires units { HasUnits sc.now units.now }
+    requires less { less ≡ share_of sc.now prefix.now s a * one_of sc.now s a b }
+    requires place { place ≡ place_of units.now (s + 1) b 0 }
+    requires outer { outer ≡ skip_of sc.now prefix.now s a c }
+    requires gain { gain ≡ pair_sum sc.now prefix.now s b c }
+    ensures { result ≡ max (two_and_rest sc.now prefix.now s a b c) best }
+{
+    sc.recall_sound();
+    if gain <= best {
+        return best;
+    }
+    let unit = units.at(place, c);
+    let all = less * u128::from(unit);
+    gain_after(sc, prefix, gain, all, outer, s, a, b, c).max(best)
+}
+
+// The greatest sum behind looks from `a` in the period before `s` and `b` in period `s`, by the sums of the pairs that `b` begins, and
+// by what both would find.
+fn best_own(
+    sc: &Scenario,
+    prefix: &Path,
+    units: &Units,
+    pairs: &[u128],
+    skips: &[u128],
+    less: u128,
+    s: u32,
+    a: u8,
+    b: u8,
+) -> u128
+    requires middle { IsMiddle sc.now prefix.now s }
+    requires before { IsOwn sc.now a }
+    requires own { IsOwn sc.now b }
+    requires near { IsNear sc.now.moves (s - 1 - length prefix.now) (last_of sc.now.start prefix.now) a }
+    requires step { Contains (moves_from sc.now.moves a) b }
+    requires to { b < sc.now.positions }
+    requires units { HasUnits sc.now units.now }
+    requires size { length pairs.now ≡ sc.now.positions * sc.now.positions }
+    requires pairs { HasPairs sc.now prefix.now s pairs.now }
+    requires width { length skips.now ≡ sc.now.positions }
+    requires skips { HasSkips sc.now prefix.now s a skips.now }
+    requires less { less ≡ share_of sc.now prefix.now s a * one_of sc.now s a b }
+    ensures { result ≡ greatest_pairs sc.now.moves (two_reward_of sc.now prefix.now) (sc.now.horizon - s) (s + 1) a b }
+{
+    let moves = sc.grid().moves(b);
+    let here = usize::from(b) * usize::from(sc.positions());
+    let place = units.place(s + 1, b);
+    let mut best = 0;
+    for c in moves {
+        let gain = sum_at(pairs, here, *c);
+        let outer = skips[usize::from(*c)];
+        best = better_own(
+            sc, prefix, units, less, place, best, gain, outer, s, a, b, *c,
+        );
+    }
+    best
+}
+
+// The edge reward of a look from `b` in period `s` after one from `a`, with the greatest sum that follows it: by its reward without the
+// look from `a`, what that one finds, and where the numbers of its cell begin; `step` are the parts of a drift and of a look.
+fn sum_own(
+    sc: &Scenario,
+    prefix: &Path,
+    units: &Units,
+    pairs: &[u128],
+    skips: &[u128],
+    reward: u128,
+    share: u128,
+    step: u128,
+    place: usize,
+    s: u32,
+    a: u8,
+    b: u8,
+) -> u128
+    requires middle { IsMiddle sc.now prefix.now s }
+    requires before { IsOwn sc.now a }
+    requires own { IsOwn sc.now b }
+    requires near { IsNear sc.now.moves (s - 1 - length prefix.now) (last_of sc.now.start prefix.now) a }
+    requires next { Contains (moves_from sc.now.moves a) b }
+    requires to { b < sc.now.positions }
+    requires units { HasUnits sc.now units.now }
+    requires size { length pairs.now ≡ sc.now.positions * sc.now.positions }
+    requires pairs { HasPairs sc.now prefix.now s pairs.now }
+    requires width { length skips.now ≡ sc.now.positions }
+    requires skips { HasSkips sc.now prefix.now s a skips.now }
+    requires reward { reward ≡ reward_of sc.now prefix.now s b }
+    requires share { share ≡ share_of sc.now prefix.now s a }
+    requires step { step ≡ sc.now.drift.denominator * sc.now.sweep.denominator }
+    requires place { place ≡ place_of units.now s a 0 }
+    ensures { result ≡ edge_and_rest sc.now prefix.now s a b }
+{
+    let less = less_own(sc, prefix, units, share, place, s, a, b);
+    let edge = edge_own(sc, prefix, reward, less, step, s, a, b);
+    let best = best_own(sc, prefix, units, pairs, skips, less, s, a, b);
+    with_edge(sc, prefix, edge, best, s, a, b)
+}
+
+// What looks from `a` in the period before `s` and `b` in period `s` would find one after the other, by what the look from `a` finds,
+// and where the numbers of its cell begin.
+fn less_own(
+    sc: &Scenario,
+    prefix: &Path,
+    units: &Units,
+    share: u128,
+    place: usize,
+    s: u32,
+    a: u8,
+    b: u8,
+) -> u128
+    requires middle { IsMiddle sc.now prefix.now s }
+    requires own { IsOwn sc.now a }
+    requires to { b < sc.now.positions }
+    requires units { HasUnits sc.now units.now }
+    requires share { share ≡ share_of sc.now prefix.now s a }
+    requires place { place ≡ place_of units.now s a 0 }
+    ensures { result ≡ share_of sc.now prefix.now s a * one_of sc.now s a b }
+{
+    let _after = prefix;
+    let _look = (s, a);
+    sc.recall_sound();
+    let unit = units.at(place, b);
+    share * u128::from(unit)
+}
+
+// The edge reward of a look from `b` in period `s` after one from `a`, by its reward without that look, and what both would find;
+// `step` are the parts of a drift and of a look.
+fn edge_own(
+    sc: &Scenario,
+    prefix: &Path,
+    reward: u128,
+    less: u128,
+    step: u128,
+    s: u32,
+    a: u8,
+    b: u8,
+) -> u128
+    requires middle { IsMiddle sc.now prefix.now s }
+    requires own { IsOwn sc.now a }
+    requires reward { reward ≡ reward_of sc.now prefix.now s b }
+    requires less { less ≡ share_of sc.now prefix.now s a * one_of sc.now s a b }
+    requires step { step ≡ sc.now.drift.denominator * sc.now.sweep.denominator }
+    ensures { result ≡ edge_reward_of sc.now prefix.now s a b }
+{
+    let _after = prefix;
+    let _looks = (s, a, b);
+    sc.recall_sound();
+    reward - less * step
+}
+
+/// Writes, from `here` on, the edge rewards of looks in period `s` from the moves of `a`, each with the greatest sum that follows it, by
+/// what the look from `a` finds.
+pub(crate) fn fill_sums_own(
+    earlier: &mut [u128],
+    sc: &Scenario,
+    prefix: &Path,
+    units: &Units,
+    pairs: &[u128],
+    rewards: &[u128],
+    skips: &[u128],
+    share: u128,
+    here: usize,
+    s: u32,
+    a: u8,
+)
+    requires middle { IsMiddle sc.now prefix.now s }
+    requires own { (b : ℕ) → b < sc.now.positions → IsOwn sc.now b }
+    requires here { here + sc.now.positions ≤ length earlier.old }
+    requires from { a < sc.now.positions }
+    requires near { IsNear sc.now.moves (s - 1 - length prefix.now) (last_of sc.now.start prefix.now) a }
+    requires units { HasUnits sc.now units.now }
+    requires size { length pairs.now ≡ sc.now.positions * sc.now.positions }
+    requires pairs { HasPairs sc.now prefix.now s pairs.now }
+    requires width { length rewards.now ≡ sc.now.positions }
+    requires rewards { (b : ℕ) → Contains (moves_from sc.now.moves a) b → slice_index rewards.now b ≡ reward_of sc.now prefix.now s b }
+    requires wide { length skips.now ≡ sc.now.positions }
+    requires skips { HasSkips sc.now prefix.now s a skips.now }
+    requires share { share ≡ share_of sc.now prefix.now s a }
+    ensures each { (b : ℕ) → Contains (moves_from sc.now.moves a) b → slice_index earlier.new (here + b) ≡ edge_and_rest sc.now prefix.now s a b }
+    ensures kept { (i : ℕ) → (i < here) ⊎ (here + sc.now.positions ≤ i) → slice_index earlier.new i ≡ slice_index earlier.old i }
+    ensures size { length earlier.new ≡ length earlier.old }
+{
+    let moves = sc.grid().moves(a);
+    let place = units.place(s, a);
+    let step = parts_of_step(sc);
+    for b in moves {
+        let reward = rewards[usize::from(*b)];
+        let sum = sum_own(
+            sc, prefix, units, pairs, skips, reward, share, step, place, s, a, *b,
+        );
+        put_at(earlier, here, *b, sum);
+    }
+}
