@@ -64,7 +64,7 @@ impl Scratch {
     {
         let edge = EdgeTables::tables(alloc, sc)?;
         let exchange = ExchangeTables::tables(alloc, sc)?;
-        let two_looks = TwoLookTables::tables(alloc, sc)?;
+        let two_looks = TwoLookTables::tables(alloc, sc, edge.units())?;
         let tangent = TangentTables::tables(alloc, sc)?;
         let mean = Mean::tables(alloc, sc)?;
         Ok(Scratch {
@@ -147,10 +147,11 @@ fn close_by_two_looks(
     }
     let near = scratch.mean.near();
     let onward = scratch.mean.onward();
+    let units = scratch.edge.units();
     let enough = standing.value + 1;
     let bound = scratch
         .two_looks
-        .bound_or_enough(sc, near, onward, prefix, reference, enough);
+        .bound_or_enough(sc, near, units, onward, prefix, reference, enough);
     if cuts(standing, bound, prefix) {
         Kind::TwoLooks(bound)
     } else {

@@ -38,8 +38,8 @@ impl BoundTables {
     {
         let tangent = TangentTables::tables(alloc, sc)?;
         let exchange = ExchangeTables::tables(alloc, sc)?;
-        let two_looks = TwoLookTables::tables(alloc, sc)?;
         let ceilings = Ceilings::tables(alloc, sc)?;
+        let two_looks = TwoLookTables::tables(alloc, sc, ceilings.edge.units())?;
         Ok(BoundTables {
             ceilings,
             tangent,
@@ -134,7 +134,8 @@ impl BoundTables {
     {
         self.ceilings.mean.go_to(sc, prefix);
         let (near, onward) = (self.ceilings.mean.near(), self.ceilings.mean.onward());
-        self.two_looks.bound(sc, near, onward, prefix)
+        let units = self.ceilings.edge.units();
+        self.two_looks.bound(sc, near, units, onward, prefix)
     }
 
     /// The exchange bound of a legal prefix that is shorter than the horizon over another as long.
