@@ -1,23 +1,39 @@
 -- The levels of a prefix, one look more, and what they are to another prefix by what both have in common.
-use Rattle.std.proofs.Common.{ℕ, ◌+◌, ◌-◌, ◌<◌, ◌≤◌, ◌≡◌, ◌==◌, false, List, [], ◌∷◌, ◌++◌, length, take, set, slice_index, slice_index_or, get_or, arith, inl, inr, ap, sym, ◌∙◌, subst, get_or-set_same, get_or-set_other, length-set, length-append, All}
-use Rattle.std.proofs.lemmas.Bool.{cases_lt}
+use Rattle.std.proofs.Common.{ℕ, ◌+◌, ◌-◌, ◌<◌, ◌≤◌, ◌≡◌, ◌==◌, false, List, [], ◌∷◌, ◌++◌, length, take, set, slice_index, slice_index_or, get_or, arith, inl, inr, ap, sym, ◌∙◌, subst, get_or-set_same, get_or-set_other, length-set, length-append}
+use Rattle.std.proofs.lemmas.Bool.{cases_lt, cases_order}
 use Rattle.std.proofs.lemmas.List.{set-append_right, get_or_append_left, get_or-append-add, get_or_default, length-take-le, take_all}
-use Rattle.std.proofs.lemmas.List.Elements.{All-set}
 use Rattle.std.proofs.lemmas.List.Sums.{common_prefix_len-le}
 use Rattle.search_model.specs.Problem.{Problem}
-use Rattle.belief_update.specs.Onward.{OnwardState, IsMadeFor, IsOnward}
-use Rattle.belief_update.specs.Levels.{AreLevels, level_at}
+use Rattle.belief_update.specs.Onward.{OnwardState, IsMadeBehind, IsOnward}
+use Rattle.belief_update.specs.Levels.{AreLevels, AreRooms, level_at}
 use Rattle.belief_update.specs.Taken.{TakenState, IsTaken, IsTakenTo}
 use Rattle.belief_update.specs.Trails.{common_of}
 use Rattle.belief_update.proofs.TrailSteps.{front_more, shorter_front, common_front}
 
 -- no level
-abbrev none : OnwardState
+abbrev pub none : OnwardState
 none = record { belief = record { period = 0; looked = false; masses = [] }; rows = []; value = 0 }
+
+-- with another level, made for as many looks, the rooms still are
+pub rooms_set : (p : Problem) (levels : List OnwardState) (i : ℕ) (new : OnwardState) → i < length levels → IsMadeBehind p i new → AreRooms p levels → AreRooms p (set levels i new)
+rooms_set p levels i new there made rooms k inside = elim (cases_order k i) [
+  | inl same ↦ rw (same, get_or-set_same levels i new none there) made
+  | inr apart ↦ rw (get_or-set_other levels i k new none (λ e. omega (arith, e, apart))) (rooms k (omega (arith, inside, length-set levels i new)))
+]
+
+-- and so they are with one more behind them
+pub rooms_more : (p : Problem) (levels : List OnwardState) (new : OnwardState) → IsMadeBehind p (length levels) new → AreRooms p levels → AreRooms p (levels ++ new ∷ [])
+rooms_more p levels new made rooms k inside = elim (cases_lt k (length levels)) [
+  | inl before ↦ rw (get_or_append_left levels (new ∷ []) none k before) (rooms k before)
+  | inr behind ↦
+      let here : k ≡ length levels + 0 = omega (arith, behind, inside, length-append levels (new ∷ [])) in
+      let place : length levels ≡ length levels + 0 = omega arith in
+      rw (here, get_or-append-add levels (new ∷ []) 0 none, ← place) made
+]
 
 -- the level after look i, behind those before it
 pub level_more : (p : Problem) (looks : List ℕ) (i : ℕ) (levels front back : List OnwardState) (new : OnwardState) → levels ≡ front ++ back → length front ≡ i + 1 → i < length looks → length looks < p.horizon →
-    AreLevels p looks i levels → IsMadeFor p new → IsOnward p (take i looks ++ slice_index looks i ∷ []) new → AreLevels p looks (i + 1) (front ++ set back 0 new)
+    AreLevels p looks i levels → IsMadeBehind p (i + 1) new → IsOnward p (take i looks ++ slice_index looks i ∷ []) new → AreLevels p looks (i + 1) (front ++ set back 0 new)
 level_more p looks i levels front back new parts size inside short are made onward =
     let place : i + 1 - (i + 1) ≡ 0 = omega arith in
     let whole : set levels (i + 1) new ≡ front ++ set back 0 new =
@@ -25,7 +41,7 @@ level_more p looks i levels front back new parts size inside short are made onwa
     let there : i + 1 < length levels = omega (arith, are.size, inside, short) in
     subst (AreLevels p looks (i + 1)) whole (record {
       size = length-set levels (i + 1) new ∙ are.size;
-      made = All-set (IsMadeFor p) levels (i + 1) new made are.made;
+      made = rooms_set p levels (i + 1) new there made are.made;
       after = λ k few below. elim (cases_lt i k) [
         | inl past ↦
             let same : k ≡ i + 1 = omega (arith, past, few) in
@@ -47,11 +63,12 @@ pub level_in_front : (p : Problem) (q : List ℕ) (i : ℕ) (levels front back :
 level_in_front p q i levels front back d parts inside on =
     subst (IsOnward p q) (ap (λ (xs : List OnwardState). level_at xs i) parts ∙ get_or_append_left front back none i inside ∙ get_or_default front i none d inside) on
 
--- and the first one behind it is made for the scenario
-pub level_behind : (p : Problem) (levels front back : List OnwardState) (d : OnwardState) → levels ≡ front ++ back → 1 ≤ length back → All (IsMadeFor p) levels → IsMadeFor p (slice_index_or back 0 d)
+-- and the first one behind it is made for the periods after so many looks as the front has levels
+pub level_behind : (p : Problem) (levels front back : List OnwardState) (d : OnwardState) → levels ≡ front ++ back → 1 ≤ length back → AreRooms p levels → IsMadeBehind p (length front) (slice_index_or back 0 d)
 level_behind p levels front back d parts some made =
-    subst (IsMadeFor p) (ap (λ (xs : List OnwardState). slice_index_or xs (length front + 0) d) parts ∙ get_or-append-add front back 0 d)
-    (made (length front + 0) d (omega (arith, ap length parts, length-append front back, some)))
+    let place : length front ≡ length front + 0 = omega arith in
+    let here = ap (level_at levels) place ∙ ap (λ (xs : List OnwardState). level_at xs (length front + 0)) parts ∙ get_or-append-add front back 0 none ∙ get_or_default back 0 none d some in
+    subst (IsMadeBehind p (length front)) here (made (length front) (omega (arith, ap length parts, length-append front back, some)))
 
 -- what both have in common is a part of each
 pub common_within : (old q : List ℕ) (same : ℕ) → same ≡ common_of old q → (same ≤ length old) × (same ≤ length q)

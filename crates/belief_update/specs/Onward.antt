@@ -18,6 +18,15 @@ pub record IsMadeFor (p : Problem) (o : OnwardState) : Type 0 where
   pub size : length o.rows ≡ p.horizon
   pub cells : HaveAllCells p o.rows
 
+-- the beliefs from place k on are over all cells
+abbrev pub HaveCellsFrom : Problem → ℕ → List BeliefState → Type 0
+HaveCellsFrom p k rows = (t : ℕ) → k ≤ t → t < length rows → length (row_at rows t).masses ≡ p.cells
+
+-- made for the periods of this scenario after the first k
+pub record IsMadeBehind (p : Problem) (k : ℕ) (o : OnwardState) : Type 0 where
+  pub size : length o.rows ≡ p.horizon
+  pub cells : HaveCellsFrom p k o.rows
+
 -- the beliefs of the periods after a prefix, up to a last one, with no look after the prefix
 abbrev pub AreOnwardTo : Problem → List ℕ → ℕ → List BeliefState → Type 0
 AreOnwardTo p q last rows = (t : ℕ) → length q < t → t ≤ last → IsBelief p (looks_to t q) (row_at rows (t - 1))

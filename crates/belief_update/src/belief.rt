@@ -74,6 +74,18 @@ impl Belief {
         })
     }
 
+    /// No belief: over no cells, in the place of one that nobody asks for. Takes no memory.
+    pub(crate) fn none(alloc: Global) -> Belief
+        ensures { length result.masses ≡ 0 }
+    {
+        Belief {
+            period: 1,
+            looked: false,
+            masses: Vec::new(alloc),
+            next: Vec::new(alloc),
+        }
+    }
+
     /// Starts again, in period 1 before a look.
     pub fn reset(&mut self, sc: &Scenario)
         requires { length self.old.masses ≡ sc.now.cells }

@@ -5,7 +5,7 @@ ghost use Rattle.search_model.specs.Problem.{Problem};
 ghost use Rattle.search_model.specs.Legal.{IsLegal};
 ghost use Rattle.search_model.specs.Tracks.{value_of};
 ghost use Rattle.belief_update.specs.Onward.{IsMadeFor, IsOnward};
-ghost use Rattle.belief_update.specs.Levels.{AreLevels, AreLevelsOf};
+ghost use Rattle.belief_update.specs.Levels.{AreLevels, AreLevelsOf, AreRooms, level_at};
 ghost use Rattle.belief_update.specs.Masses.{AreBehind};
 ghost use Rattle.belief_update.specs.Flows.{AreFlows, HasOwnFlow};
 
@@ -43,14 +43,17 @@ impl Model for Levels {
     ghost invariant = { λ l. length l.prefix < length l.levels.items };
 }
 
-// Room for one level a period.
+// Room for one level a period, each for the periods after so many looks as there are before it.
 fn rooms(alloc: Global, sc: &Scenario) -> Result<Vec<Onward>, NoMemory>
     ensures size { IfOk result (λ levels. length levels.items ≡ sc.now.horizon) }
-    ensures made { IfOk result (λ levels. All (IsMadeFor sc.now) levels.items) }
+    ensures first { IfOk result (λ levels. IsMadeFor sc.now (level_at levels.items 0)) }
+    ensures made { IfOk result (λ levels. AreRooms sc.now levels.items) }
 {
+    sc.recall_sound();
     let mut levels = Vec::new(alloc);
-    for _ in 0..sc.horizon() {
-        levels.push(Onward::tables(alloc, sc)?)?;
+    levels.push(Onward::tables(alloc, sc)?)?;
+    for k in 1..sc.horizon() {
+        levels.push(Onward::behind(alloc, sc, k)?)?;
     }
     Ok(levels)
 }
@@ -58,7 +61,8 @@ fn rooms(alloc: Global, sc: &Scenario) -> Result<Vec<Onward>, NoMemory>
 // Makes the level before all looks.
 fn begin(levels: &mut [Onward], sc: &Scenario)
     requires size { length levels.old ≡ sc.now.horizon }
-    requires made { All (IsMadeFor sc.now) levels.old }
+    requires first { IsMadeFor sc.now (level_at levels.old 0) }
+    requires made { AreRooms sc.now levels.old }
     ensures { AreLevels sc.now [] 0 levels.new }
 {
     sc.recall_sound();

@@ -1,10 +1,10 @@
 //! Beliefs after a prefix, period by period.
 
-ghost use Rattle.std.specs.Prelude.{◌≡◌, ◌<◌, ◌≤◌, ◌+◌, ◌-◌, ◌++◌, ◌∷◌, [], ℕ, List, length, IfOk};
+ghost use Rattle.std.specs.Prelude.{◌≡◌, ◌<◌, ◌≤◌, ◌+◌, ◌-◌, ◌++◌, ◌∷◌, [], ℕ, List, length, IfOk, IsTrue};
 ghost use Rattle.search_model.specs.Legal.{IsLegal};
 ghost use Rattle.search_model.specs.Tracks.{value_of};
 ghost use Rattle.belief_update.specs.Trails.{IsPast, IsAhead, HaveAllCells, row_at};
-ghost use Rattle.belief_update.specs.Onward.{AreOnwardTo, IsOnward, IsOnwardBehind};
+ghost use Rattle.belief_update.specs.Onward.{AreOnwardTo, IsOnward, IsOnwardBehind, HaveCellsFrom};
 ghost use Rattle.belief_update.specs.Taken.{IsTaken};
 ghost use Rattle.belief_update.specs.Flows.{IsFlow, IsMadeUp};
 
@@ -86,14 +86,14 @@ fn leave_rows(
     requires short { k + 1 < sc.now.horizon }
     requires position { a < sc.now.positions }
     requires size { length rows.old ≡ sc.now.horizon }
-    requires cells { HaveAllCells sc.now rows.old }
+    requires cells { HaveCellsFrom sc.now (k + 1) rows.old }
     requires before { IsOnwardBehind sc.now k before.now }
     requires taken { (q : List ℕ) → length q ≡ k → IsOnward sc.now q before.now →
         IsTaken sc.now q (q ++ a ∷ []) taken.old }
     requires period { taken.old.period ≡ k + 1 }
     ensures rows { (q : List ℕ) → length q ≡ k → IsOnward sc.now q before.now →
         AreOnwardTo sc.now (q ++ a ∷ []) sc.now.horizon rows.new }
-    ensures cells { HaveAllCells sc.now rows.new }
+    ensures cells { HaveCellsFrom sc.now (k + 1) rows.new }
     ensures room { length taken.new.masses ≡ sc.now.cells }
 {
     sc.recall_sound();
@@ -116,14 +116,14 @@ fn leave_units(
 )
     requires short { k + 1 < sc.now.horizon }
     requires size { length rows.old ≡ sc.now.horizon }
-    requires cells { HaveAllCells sc.now rows.old }
+    requires cells { HaveCellsFrom sc.now (k + 1) rows.old }
     requires before { IsOnwardBehind sc.now k before.now }
     requires flow { IsFlow sc.now a flow.now }
     requires made { sc.now.horizon ≤ k + 1 + length flow.now.spans }
     requires taken { (q : List ℕ) → length q ≡ k → IsOnward sc.now q before.now → IsMadeUp sc.now q a units }
     ensures rows { (q : List ℕ) → length q ≡ k → IsOnward sc.now q before.now →
         AreOnwardTo sc.now (q ++ a ∷ []) sc.now.horizon rows.new }
-    ensures cells { HaveAllCells sc.now rows.new }
+    ensures cells { HaveCellsFrom sc.now (k + 1) rows.new }
 {
     sc.recall_sound();
     for t in k + 1..rows.len() {
@@ -131,9 +131,32 @@ fn leave_units(
     }
 }
 
+// A belief before the first look, where it is asked for.
+fn belief_where(alloc: Global, sc: &Scenario, asked: bool) -> Result<Belief, NoMemory>
+    ensures { IfOk result (λ b. IsTrue asked → length b.masses ≡ sc.now.cells) }
+{
+    if asked {
+        Belief::start(alloc, sc)
+    } else {
+        Ok(Belief::none(alloc))
+    }
+}
+
+// Beliefs of all periods. Those of the first `k` are none.
+fn beliefs_behind(alloc: Global, sc: &Scenario, k: u32) -> Result<Vec<Belief>, NoMemory>
+    ensures size { IfOk result (λ rows. length rows.items ≡ sc.now.horizon) }
+    ensures cells { IfOk result (λ rows. HaveCellsFrom sc.now k rows.items) }
+{
+    let mut rows = Vec::new(alloc);
+    for t in 0..sc.horizon() {
+        rows.push(belief_where(alloc, sc, t >= k)?)?;
+    }
+    Ok(rows)
+}
+
 impl Onward {
     ghost use Rattle.search_model.specs.Problem.{Problem};
-    ghost use Rattle.belief_update.specs.Onward.{IsMadeFor, IsOnward, IsOnwardBehind};
+    ghost use Rattle.belief_update.specs.Onward.{IsMadeFor, IsMadeBehind, IsOnward, IsOnwardBehind};
     ghost use Rattle.belief_update.specs.Flows.{DriftsAlike, IsOwn};
 
     /// Room for the periods of a scenario. Only this call takes memory.
@@ -143,6 +166,19 @@ impl Onward {
         Ok(Onward {
             belief: Belief::start(alloc, sc)?,
             rows: first_beliefs(alloc, sc, sc.horizon())?,
+            value: 0,
+        })
+    }
+
+    /// Room for the periods of a scenario after the first `k`, for those who make them of the beliefs after a look less. Only
+    /// this call takes memory.
+    pub(crate) fn behind(alloc: Global, sc: &Scenario, k: u32) -> Result<Onward, NoMemory>
+        ensures { IfOk result (IsMadeBehind sc.now k) }
+    {
+        let rows = beliefs_behind(alloc, sc, k)?;
+        Ok(Onward {
+            belief: Belief::none(alloc),
+            rows,
             value: 0,
         })
     }
@@ -175,13 +211,20 @@ impl Onward {
 
     /// Goes to a prefix with one position more, by the beliefs after the prefix of `k` positions. Each mass is left as it
     /// was, times the denominator, but for what the look takes.
-    pub fn look_from(&mut self, sc: &Scenario, before: &Onward, k: usize, a: u8, taken: &mut Taken)
-        requires made { IsMadeFor sc.now self.old }
+    pub(crate) fn look_from(
+        &mut self,
+        sc: &Scenario,
+        before: &Onward,
+        k: usize,
+        a: u8,
+        taken: &mut Taken,
+    )
+        requires made { IsMadeBehind sc.now (k + 1) self.old }
         requires short { k + 1 < sc.now.horizon }
         requires position { a < sc.now.positions }
         requires room { length taken.old.masses ≡ sc.now.cells }
         requires before { IsOnwardBehind sc.now k before.now }
-        ensures made { IsMadeFor sc.now self.new }
+        ensures made { IsMadeBehind sc.now (k + 1) self.new }
         ensures onward { (q : List ℕ) → length q ≡ k → IsOnward sc.now q before.now →
             IsOnward sc.now (q ++ a ∷ []) self.new }
         ensures room { length taken.new.masses ≡ sc.now.cells }
@@ -200,7 +243,7 @@ impl Onward {
         taken: &mut Taken,
         flow: &Flow,
     )
-        requires made { IsMadeFor sc.now self.old }
+        requires made { IsMadeBehind sc.now (k + 1) self.old }
         requires short { k + 1 < sc.now.horizon }
         requires position { a < sc.now.positions }
         requires own { IsOwn sc.now a }
@@ -209,7 +252,7 @@ impl Onward {
         requires steps { sc.now.horizon ≤ k + 1 + length flow.now.spans }
         requires room { length taken.old.masses ≡ sc.now.cells }
         requires before { IsOnwardBehind sc.now k before.now }
-        ensures made { IsMadeFor sc.now self.new }
+        ensures made { IsMadeBehind sc.now (k + 1) self.new }
         ensures onward { (q : List ℕ) → length q ≡ k → IsOnward sc.now q before.now →
             IsOnward sc.now (q ++ a ∷ []) self.new }
         ensures room { length taken.new.masses ≡ sc.now.cells }

@@ -1,6 +1,7 @@
 use Rattle.std.proofs.Common.{◌≡◌, ◌<◌, false, [], length, arith, ◌∙◌, get_or-set_same, length-set}
-use Rattle.std.proofs.lemmas.List.Elements.{All-set}
-use Rattle.belief_update.specs.Onward.{IsMadeFor, IsOnward}
+use Rattle.belief_update.specs.Onward.{IsOnward}
+use Rattle.belief_update.proofs.LevelSteps.{rooms_set}
+use Rattle.belief_update.proofs.OnwardRows.{made_behind_none}
 use Rattle.belief_update.proofs.levels.begin.Goals as goal
 
 pub returns : goal.returns
@@ -12,7 +13,7 @@ returns c =
     let onward : IsOnward p [] new = rw c.empty.ensures at c.go_to.ensures.onward in
     record {
       size = length-set levels 0 new ∙ c.requires.size;
-      made = All-set (IsMadeFor p) levels 0 new c.go_to.ensures.made c.requires.made;
+      made = rooms_set p levels 0 new there (made_behind_none p new c.go_to.ensures.made) c.requires.made;
       after = λ k few below.
           let none : k ≡ 0 = omega (arith, few) in
           rw (none, get_or-set_same levels 0 new (record { belief = record { period = 0; looked = false; masses = [] }; rows = []; value = 0 }) there) onward;

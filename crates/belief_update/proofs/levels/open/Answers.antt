@@ -1,14 +1,14 @@
-use Rattle.std.proofs.Common.{ℕ, ◌+◌, ◌<◌, ◌≡◌, List, [], ◌∷◌, ◌++◌, length, take, set, slice_index, slice_index_or, refl, ap, arith, length-append}
+use Rattle.std.proofs.Common.{ℕ, ◌+◌, ◌<◌, ◌≡◌, List, [], ◌∷◌, ◌++◌, length, take, set, slice_index, slice_index_or, refl, ap, subst, arith, length-append}
 use Rattle.std.proofs.lemmas.List.{length-take-le}
 use Rattle.search_model.specs.Problem.{Problem}
-use Rattle.belief_update.specs.Onward.{OnwardState, IsMadeFor, IsOnward, IsOnwardBehind}
+use Rattle.belief_update.specs.Onward.{OnwardState, IsMadeBehind, IsOnward, IsOnwardBehind}
 use Rattle.belief_update.specs.Levels.{AreLevels}
 use Rattle.belief_update.proofs.LevelSteps.{level_more, level_in_front, level_behind}
 use Rattle.belief_update.proofs.levels.open.Goals as goal
 
 -- a level that is made of the one before it, behind those that there are
 more : (p : Problem) (looks : List ℕ) (i : ℕ) (levels front back : List OnwardState) (d new : OnwardState) → levels ≡ front ++ back → length front ≡ i + 1 → i < length looks → length looks < p.horizon →
-    AreLevels p looks i levels → IsMadeFor p new → ((q : List ℕ) → length q ≡ i → IsOnward p q (slice_index_or front i d) → IsOnward p (q ++ slice_index looks i ∷ []) new) →
+    AreLevels p looks i levels → IsMadeBehind p (i + 1) new → ((q : List ℕ) → length q ≡ i → IsOnward p q (slice_index_or front i d) → IsOnward p (q ++ slice_index looks i ∷ []) new) →
     AreLevels p looks (i + 1) (front ++ set back 0 new)
 more p looks i levels front back d new parts long inside short are made onward =
     let there : i < length front = omega (arith, long) in
@@ -25,9 +25,10 @@ before p looks i levels front back d parts long inside short are =
 
 -- the level after the look, behind the cut, has room
 after : (p : Problem) (looks : List ℕ) (i : ℕ) (levels front back : List OnwardState) (d : OnwardState) → levels ≡ front ++ back → length front ≡ i + 1 → i < length looks → length looks < p.horizon →
-    AreLevels p looks i levels → IsMadeFor p (slice_index_or back 0 d)
+    AreLevels p looks i levels → IsMadeBehind p (i + 1) (slice_index_or back 0 d)
 after p looks i levels front back d parts long inside short are =
-    level_behind p levels front back d parts (omega (arith, ap length parts, length-append front back, long, inside, short, are.size)) are.made
+    subst (λ (k : ℕ). IsMadeBehind p k (slice_index_or back 0 d)) long
+    (level_behind p levels front back d parts (omega (arith, ap length parts, length-append front back, long, inside, short, are.size)) are.made)
 
 pub reach_own-requires-clause-position : goal.reach_own-requires-clause-position
 reach_own-requires-clause-position c = c.requires.positions c.args.i 0 c.requires.inside

@@ -1,10 +1,12 @@
-use Rattle.std.proofs.Common.{◌≡◌, length, All}
+use Rattle.std.proofs.Common.{◌≡◌, length}
 use Rattle.belief_update.specs.Onward.{IsMadeFor}
+use Rattle.belief_update.specs.Levels.{AreRooms, level_at}
 use Rattle.belief_update.proofs.levels.rooms.Given as goal
 
--- one level for each period so far
-abbrev pub invariant-loop : goal.invariant-loop
-invariant-loop l = record {
-  size : length l.levels.items ≡ l.counter;
-  made : All (IsMadeFor l.sc) l.levels.items;
+-- one level for each number of looks so far
+abbrev pub invariant-loop-k : goal.invariant-loop-k
+invariant-loop-k l = record {
+  size : length l.levels.items ≡ l.k;
+  first : IsMadeFor l.sc (level_at l.levels.items 0);
+  made : AreRooms l.sc l.levels.items;
 }

@@ -1,12 +1,11 @@
 use Rattle.std.proofs.Common.{◌≡◌, ◌<◌, ◌+◌, ◌-◌, ◌++◌, ◌∷◌, [], ℕ, List, length, arith, length-append}
-use Rattle.std.proofs.lemmas.List.Elements.{All-set}
 use Rattle.search_model.specs.Problem.{Problem}
 use Rattle.belief_update.specs.Masses.{looks_to}
 use Rattle.belief_update.specs.Belief.{BeliefState, IsBelief}
 use Rattle.belief_update.specs.Taken.{TakenState, IsTaken, IsLater}
 use Rattle.belief_update.specs.Onward.{IsOnward, OnwardState}
 use Rattle.belief_update.specs.Trails.{row_at}
-use Rattle.belief_update.proofs.OnwardRows.{row_more, belief_at}
+use Rattle.belief_update.proofs.OnwardRows.{row_more, belief_at, cells_set, cells_at}
 use Rattle.belief_update.proofs.onward.leave_rows.Goals as goal
 
 -- the belief of a later period, and what the look took
@@ -33,6 +32,10 @@ drift-requires-clause-taken c =
     let (q, size, on) = c.requires.before in
     (q, q ++ c.args.a ∷ [], c.loop-t.invariant.taken q size on)
 
+pub leave_from-requires-clause-cells : goal.leave_from-requires-clause-cells
+leave_from-requires-clause-cells c =
+    cells_at c.args.sc.now (c.args.k + 1) c.loop-t.t c.loop-t.rows c.index-rows-t.result c.loop-t.invariant.cells c.loop-t.auto.t (omega (arith, c.loop-t-test.true, c.loop-t.auto.rows))
+
 pub leave_from-requires-clause-later : goal.leave_from-requires-clause-later
 leave_from-requires-clause-later c =
     let p = c.args.sc.now in
@@ -56,10 +59,9 @@ loop-t-preserved c =
     let left : (q : List ℕ) → length q ≡ c.args.k → IsOnward p q c.args.before.now → IsBelief p (looks_to (t + 1) (q ++ a ∷ [])) c.leave_from.new.self = λ q size on.
     let later = beside p q a t c.args.before.now c.at.result.now c.drift.new.self on (omega (arith, size, c.loop-t.auto.t)) short period c.at.ensures (taken q size on) in
     rw period at (c.leave_from.ensures q (q ++ a ∷ []) later) in
-    let HasCells : BeliefState → Type 0 = λ b. length b.masses ≡ p.cells in
     let (some, some_size, some_on) = c.requires.before in
     record {
-      cells = All-set HasCells c.loop-t.rows t c.leave_from.new.self (left some some_size some_on).cells c.loop-t.invariant.cells;
+      cells = cells_set p (c.args.k + 1) t c.loop-t.rows c.leave_from.new.self here (left some some_size some_on).cells c.loop-t.invariant.cells;
       period = period;
       taken = taken;
       rows = λ q size on. row_more p (q ++ a ∷ []) t c.loop-t.rows c.leave_from.new.self here (c.loop-t.invariant.rows q size on) (left q size on);

@@ -1,5 +1,4 @@
 use Rattle.std.proofs.Common.{◌≡◌, ◌<◌, ◌≤◌, ◌+◌, ◌-◌, ◌++◌, ◌∷◌, [], ℕ, List, length, arith, length-append}
-use Rattle.std.proofs.lemmas.List.Elements.{All-set}
 use Rattle.search_model.specs.Problem.{Problem}
 use Rattle.belief_update.specs.Masses.{looks_to}
 use Rattle.belief_update.specs.Belief.{BeliefState, IsBelief}
@@ -8,7 +7,7 @@ use Rattle.belief_update.specs.Onward.{IsOnward, OnwardState}
 use Rattle.belief_update.specs.Trails.{row_at}
 use Rattle.belief_update.specs.Flows.{IsUnits, IsMadeUp, HoldUnit, units_on}
 use Rattle.belief_update.specs.declared.flows.UnitPart.{UnitPart}
-use Rattle.belief_update.proofs.OnwardRows.{row_more, belief_at}
+use Rattle.belief_update.proofs.OnwardRows.{row_more, belief_at, cells_set, cells_at}
 use Rattle.belief_update.proofs.UnitSteps.{units_there}
 use Rattle.belief_update.proofs.onward.leave_units.Goals as goal
 
@@ -28,6 +27,10 @@ loop-t-init c = record {
   cells = c.requires.cells;
   rows = λ q size on t later last. absurd (omega (arith, size, later, last, length-append q (c.args.a ∷ [])));
 }
+
+pub leave_units-requires-clause-cells : goal.leave_units-requires-clause-cells
+leave_units-requires-clause-cells c =
+    cells_at c.args.sc.now (c.args.k + 1) c.loop-t.t c.loop-t.rows c.index-rows-t.result c.loop-t.invariant.cells c.loop-t.auto.t (omega (arith, c.loop-t-test.true, c.loop-t.auto.rows))
 
 pub leave_units-requires-clause-taken : goal.leave_units-requires-clause-taken
 leave_units-requires-clause-taken c =
@@ -50,10 +53,9 @@ loop-t-preserved c =
     let units = there p q a c.args.units k t c.args.before.now c.at.result.now c.row.result.now on size c.loop-t.auto.t short c.at.ensures (c.requires.taken q size on) (c.row.ensures p a c.requires.flow) in
     let period : length q + 1 + (t - k) ≡ t + 1 = omega (arith, size, c.loop-t.auto.t) in
     rw period at (c.leave_units.ensures q (q ++ a ∷ []) (took p q a c.args.units (t - k)) units) in
-    let HasCells : BeliefState → Type 0 = λ b. length b.masses ≡ p.cells in
     let (some, some_size, some_on) = c.requires.before in
     record {
-      cells = All-set HasCells c.loop-t.rows t c.leave_units.new.self (left some some_size some_on).cells c.loop-t.invariant.cells;
+      cells = cells_set p (c.args.k + 1) t c.loop-t.rows c.leave_units.new.self here (left some some_size some_on).cells c.loop-t.invariant.cells;
       rows = λ q size on. row_more p (q ++ a ∷ []) t c.loop-t.rows c.leave_units.new.self here (c.loop-t.invariant.rows q size on) (left q size on);
     }
 

@@ -27,12 +27,10 @@ leave_units-requires-clause-taken c q size on =
 
 pub returns-clause-made : goal.returns-clause-made
 returns-clause-made c =
-    let p = c.args.sc.now in
     let new = c.leave_units.new.rows in
-    let many : length new ≡ p.horizon = c.leave_units.auto.rows ∙ ap length c.deref_mut.ensures.value ∙ ap (λ o. length o.rows) c.self.view_is ∙ c.requires.made.size in
+    let many : length new ≡ c.args.sc.now.horizon = c.leave_units.auto.rows ∙ ap length c.deref_mut.ensures.value ∙ ap (λ o. length o.rows) c.self.view_is ∙ c.requires.made.size in
     let kept = with_items_is c.self.inside.rows new (c.leave_units.auto.rows ∙ c.deref_mut.ensures.len) in
-    let belief : length c.self.inside.belief.masses ≡ p.cells = ap (λ o. length o.belief.masses) c.self.view_is ∙ c.requires.made.belief in
-    rw kept (record { belief = belief; size = many; cells = c.leave_units.ensures.cells })
+    rw kept (record { size = many; cells = c.leave_units.ensures.cells })
 
 pub returns-clause-onward : goal.returns-clause-onward
 returns-clause-onward c q size on =
