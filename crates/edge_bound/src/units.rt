@@ -1,6 +1,6 @@
 //! What looks find of units of mass, each of which was in one cell a period before.
 
-ghost use Rattle.std.specs.Prelude.{◌≡◌, ◌<◌, ◌≤◌, ◌+◌, ◌-◌, ◌*◌, ℕ, length, slice_index, IsTrue, IfOk};
+ghost use Rattle.std.specs.Prelude.{◌≡◌, ◌<◌, ◌≤◌, ◌+◌, ◌-◌, ◌*◌, ℕ, length, drop, slice_index, IsTrue, IfOk};
 ghost use Rattle.sweep_table.specs.LookParts.{look_row, factor_of};
 ghost use Rattle.edge_bound.specs.Found.{one_of};
 ghost use Rattle.belief_update.specs.Flows.{IsOwn};
@@ -298,6 +298,14 @@ impl Units {
         ensures { result ≡ place_of self.now t c 0 }
     {
         (t as usize - 2) * self.step + usize::from(c) * self.positions
+    }
+
+    /// The numbers from a place on.
+    pub fn from(&self, place: usize) -> &[u64]
+        requires { place ≤ length self.now.units }
+        ensures { result.now ≡ drop place self.now.units }
+    {
+        &self.units[place..]
     }
 
     /// The number of position `b`, where those of its cell and period begin at a place.

@@ -29,6 +29,10 @@ parts_after_two p q s = p.drift.denominator ^ (p.horizon - (s + 1)) * p.sweep.de
 abbrev pub share_of : Problem → List ℕ → ℕ → ℕ → ℕ
 share_of p q s a = found_of p (s - 1) a (mass_of p (looks_to (s - 1) q)) * parts_after_two p q s
 
+-- what looks in period t find of a unit that was in cell c a period before, position by position
+abbrev pub IsUnitRow : Problem → ℕ → ℕ → List ℕ → Type 0
+IsUnitRow p t c row = (b : ℕ) → b < p.positions → slice_index row b ≡ one_of p t c b
+
 -- what it takes of the mass of each cell in period s, in these parts
 abbrev pub HasTaken : Problem → List ℕ → ℕ → ℕ → List ℕ → Type 0
 HasTaken p q s a taken = (e : ℕ) → e < p.cells → slice_index taken e ≡ taken_to p q s a e * parts_after_two p q s

@@ -1,6 +1,6 @@
 //! The greatest sums behind a pair of looks, where looks cover their own cells alone.
 
-ghost use Rattle.std.specs.Prelude.{◌≡◌, ◌<◌, ◌≤◌, ◌+◌, ◌-◌, ◌*◌, ◌⊎◌, ℕ, length, max, slice_index, Contains};
+ghost use Rattle.std.specs.Prelude.{◌≡◌, ◌<◌, ◌≤◌, ◌+◌, ◌-◌, ◌*◌, ◌⊎◌, ℕ, length, drop, max, slice_index, Contains};
 ghost use Rattle.search_grid.specs.Moves.{moves_from};
 ghost use Rattle.search_model.specs.Legal.{last_of};
 ghost use Rattle.search_model.specs.Bounds.{reward_of};
@@ -10,10 +10,10 @@ ghost use Rattle.belief_update.specs.Flows.{IsOwn};
 ghost use Rattle.edge_bound.specs.Found.{one_of};
 ghost use Rattle.edge_bound.specs.Units.{HasUnits, place_of};
 ghost use Rattle.two_look_bound.specs.Pairs.{two_reward_of, greatest_pairs, pair_sum, edge_and_rest, two_and_rest, HasPairs, IsMiddle};
-ghost use Rattle.two_look_bound.specs.Taken.{share_of, skip_of, HasSkips};
+ghost use Rattle.two_look_bound.specs.Taken.{share_of, skip_of, HasSkips, IsUnitRow};
 ghost use Rattle.two_look_bound.specs.Rooms.{HasTwos};
 
-use crate::pairs::{gain_after, parts_of_step, put_at, sum_at, with_edge};
+use crate::pairs::{gain_after, parts_of_step, put_at, with_edge};
 use edge_bound::Units;
 use longest_walk::Near;
 use search_model::{Path, Scenario};
@@ -75,15 +75,37 @@ pub(crate) fn fill_skips_own(
     }
 }
 
+// What looks in period `t` find of a unit that was in cell `b` a period before.
+fn unit_row<'u>(sc: &Scenario, units: &'u Units, t: u32, b: u8) -> &'u [u64]
+    requires first { 2 ≤ t }
+    requires last { t ≤ sc.now.horizon }
+    requires own { IsOwn sc.now b }
+    requires from { b < sc.now.positions }
+    requires units { HasUnits sc.now units.now }
+    ensures row { IsUnitRow sc.now t b result.now }
+    ensures width { sc.now.positions ≤ length result.now }
+{
+    sc.recall_sound();
+    units.from(units.place(t, b))
+}
+
+// The numbers of a table from the row of position `b` on.
+fn sums_from<'p>(sc: &Scenario, pairs: &'p [u128], b: u8) -> &'p [u128]
+    requires from { b < sc.now.positions }
+    requires size { length pairs.now ≡ sc.now.positions * sc.now.positions }
+    ensures { result.now ≡ drop (b * sc.now.positions) pairs.now }
+{
+    &pairs[usize::from(b) * usize::from(sc.positions())..]
+}
+
 // The greater of a number and the reward of a look from `c` after those from `a` and `b`, with the greatest sum that follows it, by
-// its edge reward with that sum, what looks from `a` and `c` would find, what looks from `a` and `b` would, and where the numbers of
-// the cell of `b` begin. It is no more than the edge reward with the sum, so where the number is no less, nothing is computed.
+// its edge reward with that sum, what looks from `a` and `c` would find, what looks from `a` and `b` would, and what looks find of a
+// unit in the cell of `b`. It is no more than the edge reward with the sum, so where the number is no less, nothing is computed.
 fn better_own(
     sc: &Scenario,
     prefix: &Path,
-    units: &Units,
+    row: &[u64],
     less: u128,
-    place: usize,
     best: u128,
     gain: u128,
     outer: u128,
@@ -96,9 +118,9 @@ fn better_own(
     requires before { IsOwn sc.now a }
     requires own { IsOwn sc.now b }
     requires to { c < sc.now.positions }
-    requires units { HasUnits sc.now units.now }
+    requires width { sc.now.positions ≤ length row.now }
+    requires row { IsUnitRow sc.now (s + 1) b row.now }
     requires less { less ≡ share_of sc.now prefix.now s a * one_of sc.now s a b }
-    requires place { place ≡ place_of units.now (s + 1) b 0 }
     requires outer { outer ≡ skip_of sc.now prefix.now s a c }
     requires gain { gain ≡ pair_sum sc.now prefix.now s b c }
     ensures { result ≡ max (two_and_rest sc.now prefix.now s a b c) best }
@@ -107,8 +129,7 @@ fn better_own(
     if gain <= best {
         return best;
     }
-    let unit = units.at(place, c);
-    let all = less * u128::from(unit);
+    let all = less * u128::from(row[usize::from(c)]);
     gain_after(sc, prefix, gain, all, outer, s, a, b, c).max(best)
 }
 
@@ -140,15 +161,13 @@ fn best_own(
     ensures { result ≡ greatest_pairs sc.now.moves (two_reward_of sc.now prefix.now) (sc.now.horizon - s) (s + 1) a b }
 {
     let moves = sc.grid().moves(b);
-    let here = usize::from(b) * usize::from(sc.positions());
-    let place = units.place(s + 1, b);
+    let sums = sums_from(sc, pairs, b);
+    let row = unit_row(sc, units, s + 1, b);
     let mut best = 0;
     for c in moves {
-        let gain = sum_at(pairs, here, *c);
+        let gain = sums[usize::from(*c)];
         let outer = skips[usize::from(*c)];
-        best = better_own(
-            sc, prefix, units, less, place, best, gain, outer, s, a, b, *c,
-        );
+        best = better_own(sc, prefix, row, less, best, gain, outer, s, a, b, *c);
     }
     best
 }

@@ -1,18 +1,18 @@
-use Rattle.std.proofs.Common.{◌≡◌, ◌+◌, ◌-◌, ◌*◌, ℕ, inr, sym, refl, ◌∙◌, arith}
+use Rattle.std.proofs.Common.{◌≡◌, ◌+◌, ◌-◌, ◌*◌, ℕ, length, slice_index, inr, sym, refl, ◌∙◌, arith}
+use Rattle.std.proofs.lemmas.List.{get_or-drop, length-drop}
 use Rattle.search_grid.specs.Moves.{moves_from}
 use Rattle.longest_walk.proofs.RowSteps.{best_more, best_all}
-use Rattle.edge_bound.proofs.CellShares.{own_inside}
 use Rattle.edge_bound.proofs.Walking.{listed_move}
 use Rattle.two_look_bound.specs.Pairs.{two_and_rest}
 use Rattle.two_look_bound.proofs.Walking.{sums_behind, listed_inside, pair_there, pair_inside}
 use Rattle.two_look_bound.proofs.own.best_own.Goals as goal
 
-pub sum_at-gain-requires : goal.sum_at-gain-requires
-sum_at-gain-requires c =
+pub bounds-sums-from : goal.bounds-sums-from
+bounds-sums-from c =
     let p = c.args.sc.now in
     let are : c.moves-moves.result.now ≡ moves_from p.moves c.args.b = rw (← c.grid.ensures.value) c.moves-moves.ensures.value in
     let to = listed_inside p c.grid.ensures.sound c.args.b c.loop-c.c-index c.moves-moves.result.now c.requires.to are c.loop-c-test.true in
-    rw (c.from.ensures, c.from-2.ensures, c.positions.ensures.value) (omega (arith, pair_inside p.positions c.args.b _ c.requires.to to, c.requires.size))
+    rw (c.from.ensures, c.sums_from-sums.ensures) (omega (arith, length-drop (c.args.b * p.positions) c.args.pairs.now, pair_inside p.positions c.args.b _ c.requires.to to, c.requires.size))
 
 pub bounds-skips-from : goal.bounds-skips-from
 bounds-skips-from c =
@@ -36,7 +36,7 @@ better_own-best-requires-clause-gain c =
     let p = c.args.sc.now in
     let are : c.moves-moves.result.now ≡ moves_from p.moves c.args.b = rw (← c.grid.ensures.value) c.moves-moves.ensures.value in
     let next = listed_move p c.args.b c.loop-c.c-index c.moves-moves.result.now are c.loop-c-test.true in
-    rw (c.sum_at-gain.ensures, c.from.ensures, c.from-2.ensures, c.positions.ensures.value) (pair_there p c.args.prefix.now c.args.pairs.now c.args.s c.args.a c.args.b _ c.requires.middle.later c.requires.near c.requires.step next c.requires.pairs)
+    rw (c.from.ensures, c.sums_from-sums.ensures, get_or-drop (c.args.b * p.positions) c.args.pairs.now (slice_index c.moves-moves.result.now c.loop-c.c-index) 0) (pair_there p c.args.prefix.now c.args.pairs.now c.args.s c.args.a c.args.b _ c.requires.middle.later c.requires.near c.requires.step next c.requires.pairs)
 
 pub loop-c-preserved : goal.loop-c-preserved
 loop-c-preserved c =
@@ -57,8 +57,3 @@ returns c =
     let all = best_all f c.moves-moves.result.now c.loop-c.c-index c.loop-c.best _ c.loop-c-test.false c.loop-c.invariant in
     rw are at all
     ∙ sym (sums_behind p q s c.args.a c.args.b c.grid.ensures.sound c.requires.middle.last c.requires.to)
-
-pub place-place-requires-clause-inside : goal.place-place-requires-clause-inside
-place-place-requires-clause-inside c =
-    let own = own_inside c.args.sc.now c.args.b c.grid.ensures.sound c.requires.own in
-    c.requires.units.inside (c.args.s + 1) c.args.b 0 (omega (arith, c.requires.middle.later)) c.requires.middle.last own (omega (arith, c.requires.to))

@@ -1,8 +1,6 @@
 use Rattle.std.proofs.Common.{◌-◌, ◌+◌, ◌*◌, ◌≡◌, arith}
 use Rattle.search_model.proofs.RewardSizes.{weights-fit}
 use Rattle.search_model.proofs.Totals.{whole_weight-fits}
-use Rattle.edge_bound.specs.Units.{place_of}
-use Rattle.edge_bound.proofs.CellShares.{own_inside}
 use Rattle.two_look_bound.specs.Pairs.{two_and_rest}
 use Rattle.two_look_bound.specs.Taken.{joint_of}
 use Rattle.two_look_bound.proofs.Fitting.{pair_sum-within, two-below, joint-within}
@@ -28,21 +26,13 @@ returns c =
     let sum : c.gain_after.result ≡ two_and_rest c.args.sc.now c.args.prefix.now c.args.s c.args.a c.args.b c.args.c = omega (arith, c.gain_after.ensures, c.requires.gain) in
     rw (c.max.ensures, sum) (omega arith)
 
-pub at-unit-requires : goal.at-unit-requires
-at-unit-requires c =
-    let own = own_inside c.args.sc.now c.args.b c.recall_sound.ensures c.requires.own in
-    let place : c.args.place + c.args.c ≡ place_of c.args.units.now (c.args.s + 1) c.args.b c.args.c = rw c.requires.place (omega arith) in
-    rw place (c.requires.units.inside (c.args.s + 1) c.args.b c.args.c (omega (arith, c.requires.middle.later)) c.requires.middle.last own c.requires.to)
+pub bounds-row-from : goal.bounds-row-from
+bounds-row-from c = rw c.from.ensures (omega (arith, c.requires.to, c.requires.width))
 
 -- what all three would find
-all_is : (c : goal.After-from) → c.args.less * c.from.result ≡ joint_of c.args.sc.now c.args.prefix.now c.args.s c.args.a c.args.b c.args.c
+all_is : (c : goal.After-from-2) → c.args.less * c.from-2.result ≡ joint_of c.args.sc.now c.args.prefix.now c.args.s c.args.a c.args.b c.args.c
 all_is c =
-    let p = c.args.sc.now in
-    let sound = c.recall_sound.ensures in
-    let own = own_inside p c.args.b sound c.requires.own in
-    let place : c.args.place + c.args.c ≡ place_of c.args.units.now (c.args.s + 1) c.args.b c.args.c = rw c.requires.place (omega arith) in
-    let unit = c.requires.units.each (c.args.s + 1) c.args.b c.args.c (omega (arith, c.requires.middle.later)) c.requires.middle.last own c.requires.to in
-    rw (c.from.ensures, c.at-unit.ensures, place, unit, c.requires.less) (joint_owned p sound c.args.prefix.now c.args.s c.args.a c.requires.before c.args.b c.args.c c.requires.own)
+    rw (c.from-2.ensures, c.from.ensures, c.requires.row c.args.c c.requires.to, c.requires.less) (joint_owned c.args.sc.now c.recall_sound.ensures c.args.prefix.now c.args.s c.args.a c.requires.before c.args.b c.args.c c.requires.own)
 
 pub overflow_mul-all : goal.overflow_mul-all
 overflow_mul-all c =
