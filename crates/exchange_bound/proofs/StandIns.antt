@@ -13,18 +13,7 @@ use Rattle.bound_tree.proofs.StandIns.{exchanged-stands, exchanged-move}
 use Rattle.bound_tree.proofs.Longer.{uncut_above}
 use Rattle.exchange_bound.specs.declared.stand_in.Exchange.{Exchange}
 use Rattle.exchange_bound.specs.declared.stand_in.Candidate.{Candidate}
-use Rattle.exchange_bound.specs.StandIns.{IsExchange, IsCandidate, AreCandidates, AreLeft, Precedes, Yields, candidate_of}
-
--- no candidate goes before itself
-pub yields-itself : (a : Candidate) → Yields a a
-yields-itself a = inr (refl, omega arith)
-
--- what doesn't go before a candidate doesn't go before one that does
-pub yields-on : (a b c : Candidate) → Precedes c b → Yields a b → Yields a c
-yields-on a b c (inl more) (inl less) = inl (omega (arith, more, less))
-yields-on a b c (inl more) (inr (same, after)) = inl (omega (arith, more, same))
-yields-on a b c (inr (level, first)) (inl less) = inl (omega (arith, level, less))
-yields-on a b c (inr (level, first)) (inr (same, after)) = inr (same ∙ sym level, omega (arith, first, after))
+use Rattle.exchange_bound.specs.StandIns.{IsExchange, IsCandidate, AreCandidates, AreLeft, Yields, candidate_of}
 
 -- what doesn't go before a candidate is worse, if its position is another one
 worse : (p : Problem) (q : List ℕ) (c : Candidate) (v : ℕ) → IsCandidate p q c → v ≢ c.position → Yields (candidate_of p q v) c →

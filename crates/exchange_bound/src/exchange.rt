@@ -22,8 +22,8 @@ use std::marker::Model;
 /// over another prefix, if that look were the only one. Where the other one ends where the prefix does and finds more than
 /// that, no best path begins with the prefix.
 ///
-/// All masses and values go by the beliefs that the mean bound keeps along the prefix, those of the other one by what it has in
-/// common with that.
+/// All masses and values go by the beliefs that the mean bound keeps along the prefix, those of the other one by what both
+/// have in common.
 #[derive(Drop)]
 pub struct ExchangeTables {
     lead: Lead,
