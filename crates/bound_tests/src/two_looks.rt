@@ -83,7 +83,7 @@ fn are_bounded_by(
     requires mean { IsMeanFor sc.now mean.old }
     requires units { HasUnits sc.now units.now }
 {
-    let mut tables = TwoLookTables::tables(alloc, sc, units)?;
+    let mut tables = TwoLookTables::tables(alloc, sc)?;
     let bounded = have_bounds(sc, mean, units, &mut tables, bounds);
     drop(tables);
     Ok(bounded)

@@ -26,7 +26,7 @@ use Rattle.two_look_bound.specs.Taken.{taken_to, two_of, parts_after_two, skip_o
 use Rattle.two_look_bound.proofs.TwoLooks.{found_gone, left_and_found, skip_cells, two_looks}
 
 -- a part of a drift's step is within the denominator
-part-within : (p : Problem) → IsProblem p → (t d e : ℕ) → d < p.cells → e < p.cells → part_of p.drift t d e ≤ p.drift.denominator
+pub part-within : (p : Problem) → IsProblem p → (t d e : ℕ) → d < p.cells → e < p.cells → part_of p.drift t d e ≤ p.drift.denominator
 part-within p sound t d e from to = omega (arith, sum_by-range-part p.cells (part_of p.drift t d) e to, steps_total p sound t d from)
 
 module _ (p : Problem) (sound : IsProblem p) (q : List ℕ) (s : ℕ) (middle : IsMiddle p q s) where

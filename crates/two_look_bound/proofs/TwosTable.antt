@@ -2,19 +2,24 @@
 use Rattle.std.proofs.Common.{ℕ, ◌+◌, ◌*◌, ◌-◌, ◌<◌, ◌≤◌, ◌≡◌, List, length, slice_index, slice_index_or, refl, sym, ap, ◌∙◌, arith, inl, inr, sum_by, mul-le-mul_left, All}
 use Rattle.std.specs.List.{range_with_len}
 use Rattle.std.proofs.lemmas.Bool.{cases_eq}
+use Rattle.std.proofs.lemmas.Nat.{mul-le}
 use Rattle.std.proofs.Math.Nat.{mul-le-mul_right}
 use Rattle.std.proofs.lemmas.List.Elements.{All-get_or}
 use Rattle.period_rows.specs.declared.part.CellPart.{CellPart}
 use Rattle.drift_chain.specs.DriftRows.{row_of, part_of}
-use Rattle.sweep_table.specs.LookParts.{misses}
+use Rattle.sweep_table.specs.LookParts.{factor_of, misses}
 use Rattle.search_model.specs.Problem.{Problem, IsProblem}
 use Rattle.search_model.proofs.DriftSums.{steps_total, row_by_cells}
+use Rattle.search_model.proofs.LookRows.{found_in_cells}
 use Rattle.list_laws.proofs.Sums.{sum_by-range-le, sum_by-times, sum_by-range-same}
 use Rattle.edge_bound.specs.Found.{one_of}
 use Rattle.edge_bound.specs.Units.{IsSteady}
 use Rattle.edge_bound.proofs.UnitTable.{one-within, steady_one, row_inside}
-use Rattle.two_look_bound.specs.Taken.{two_of}
+use Rattle.belief_update.specs.Found.{found_of}
+use Rattle.two_look_bound.specs.Taken.{two_of, HasGone}
 use Rattle.two_look_bound.specs.Rooms.{HasTwos, HasTwosBlock, HasTwosBlocks}
+use Rattle.two_look_bound.proofs.TwoLooks.{found_gone}
+use Rattle.two_look_bound.proofs.Fitting.{part-within}
 
 -- What a look finds of a unit two periods after.
 
@@ -33,11 +38,32 @@ two-within p sound s c b here =
 pub row_cells : (p : Problem) → IsProblem p → (t c : ℕ) (row : List CellPart) → c < p.cells → row ≡ row_of p.drift t c → All (λ (e : CellPart). e.cell < p.cells) row
 row_cells p sound t c row here is = rw is (rw sound.drift_cells at (sound.drift.each t c (omega (arith, here, sound.drift_cells))).within)
 
--- by the entries of the drift's row of the cell
-pub entries_give : (p : Problem) → IsProblem p → (s c b : ℕ) → c < p.cells → sum_by (λ (e : CellPart). e.part * one_of p (s + 1) e.cell b) (row_of p.drift (s - 1) c) ≡ two_of p s c b
-entries_give p sound s c b here =
-    let row = row_of p.drift (s - 1) c in
-    sym (row_by_cells p.cells (λ d. one_of p (s + 1) d b) row (row_cells p sound (s - 1) c row here refl))
+-- what comes to a cell two periods after, by the entries of the drift's row
+pub gone_by_entries : (p : Problem) → IsProblem p → (s c d : ℕ) (row : List CellPart) → c < p.cells → row ≡ row_of p.drift (s - 1) c →
+    sum_by (λ (e : CellPart). e.part * part_of p.drift s e.cell d) row ≡ sum_by (λ e. part_of p.drift (s - 1) c e * part_of p.drift s e d) (range_with_len 0 p.cells)
+gone_by_entries p sound s c d row here is = rw is (sym (row_by_cells p.cells (λ e. part_of p.drift s e d) (row_of p.drift (s - 1) c) (row_cells p sound (s - 1) c (row_of p.drift (s - 1) c) here refl)))
+
+-- it is within the square of the denominator
+pub gone-within : (p : Problem) → IsProblem p → (s c d : ℕ) → c < p.cells → d < p.cells → sum_by (λ e. part_of p.drift (s - 1) c e * part_of p.drift s e d) (range_with_len 0 p.cells) ≤ 1000000 * 1000000
+gone-within p sound s c d from to =
+    let all = range_with_len 0 p.cells in
+    let part : ℕ → ℕ = part_of p.drift (s - 1) c in
+    let n = p.drift.denominator in
+    let each = sum_by-range-le p.cells (λ e. part e * part_of p.drift s e d) (λ e. part e * n) (λ e lt. mul-le-mul_left (part e) (part-within p sound s e d lt to)) in
+    let whole : sum_by (λ e. part e * n) all ≡ n * n = sum_by-times part n all ∙ ap (λ (m : ℕ). m * n) (steps_total p sound (s - 1) c from) in
+    let most = mul-le _ _ _ _ sound.drift.denominator.1 sound.drift.denominator.1 in
+    omega (arith, each, whole, most)
+
+-- a look finds of that what it finds of the unit
+pub two_gone : (p : Problem) → IsProblem p → (s c b : ℕ) (gone : List ℕ) → HasGone p s c gone → found_of p (s + 1) b (slice_index gone) ≡ two_of p s c b
+two_gone p sound s c b gone is =
+    let part : ℕ → ℕ = part_of p.drift (s - 1) c in
+    let comes : ℕ → ℕ = λ d. sum_by (λ e. part e * part_of p.drift s e d) (range_with_len 0 p.cells) in
+    let left : ℕ → ℕ = λ d. p.sweep.denominator - factor_of p.sweep (s + 1) b d in
+    sym (found_in_cells p sound (s + 1) b (slice_index gone))
+    ∙ sum_by-range-same p.cells (λ d. slice_index gone d * left d) (λ d. comes d * left d) (λ d lt. rw (is d lt) refl)
+    ∙ found_in_cells p sound (s + 1) b comes
+    ∙ found_gone p sound s 0 b part
 
 -- an entry's cell is one
 pub entry_cell : (p : Problem) → IsProblem p → (t c i : ℕ) (row : List CellPart) → c < p.cells → row ≡ row_of p.drift t c → i < length row → (slice_index_or row i (misses 0 0)).cell < p.cells

@@ -25,6 +25,10 @@ taken_to p q s a e = found_of p (s - 1) a (going_on p q s e)
 abbrev pub parts_after_two : Problem → List ℕ → ℕ → ℕ
 parts_after_two p q s = p.drift.denominator ^ (p.horizon - (s + 1)) * p.sweep.denominator ^ (p.horizon - (length q + 3))
 
+-- what comes to each cell in period s + 1 of a unit that was in cell c two periods before
+abbrev pub HasGone : Problem → ℕ → ℕ → List ℕ → Type 0
+HasGone p s c gone = (d : ℕ) → d < p.cells → slice_index gone d ≡ sum_by (λ e. part_of p.drift (s - 1) c e * part_of p.drift s e d) (range_with_len 0 p.cells)
+
 -- what a look from position a in the period before s finds, in these parts
 abbrev pub share_of : Problem → List ℕ → ℕ → ℕ → ℕ
 share_of p q s a = found_of p (s - 1) a (mass_of p (looks_to (s - 1) q)) * parts_after_two p q s

@@ -117,15 +117,14 @@ fn sum_from(
 impl TwoLookTables {
     ghost use Rattle.two_look_bound.specs.Rooms.{AreTablesFor};
 
-    /// Tables for a scenario, by what looks find of units of mass a period after. Only this call takes memory.
-    pub fn tables(alloc: Global, sc: &Scenario, units: &Units) -> Result<TwoLookTables, NoMemory>
-        requires units { HasUnits sc.now units.now }
+    /// Tables for a scenario. Only this call takes memory.
+    pub fn tables(alloc: Global, sc: &Scenario) -> Result<TwoLookTables, NoMemory>
         ensures { IfOk result (AreTablesFor sc.now) }
     {
         let positions = usize::from(sc.positions());
         let cells = usize::from(sc.cells());
         Ok(TwoLookTables {
-            twos: twos_of(alloc, sc, units)?,
+            twos: twos_of(alloc, sc)?,
             own: has_own_looks(sc),
             sums: vec![in alloc; 0; positions * positions + positions * positions]?,
             rows: vec![in alloc; 0; cells + cells + cells + positions + positions]?,

@@ -33,16 +33,16 @@ pub(crate) fn weighted(table: &Units, shares: &[u128], row: &[LookPart], t: u32,
     sum
 }
 
-// Writes zeros.
-fn clear(taken: &mut [u128])
+/// Writes zeros.
+pub(crate) fn clear(taken: &mut [u128])
     ensures each { (e : ℕ) → e < length taken.old → slice_index taken.new e ≡ 0 }
     ensures size { length taken.new ≡ length taken.old }
 {
     taken.fill(0);
 }
 
-// Adds what a row of the drift sends on of a share.
-fn add_row(taken: &mut [u128], row: &[DriftPart], share: u128)
+/// Adds what a row of the drift sends on of a share.
+pub(crate) fn add_row(taken: &mut [u128], row: &[DriftPart], share: u128)
     requires entries { All (λ entry. entry.cell < length taken.old) row.now }
     requires fits { (d : ℕ) → d < length taken.old → slice_index taken.old d + share * part_in row.now d < 2 ^ 127 }
     ensures each { (d : ℕ) → d < length taken.old →
