@@ -64,7 +64,7 @@ impl Scratch {
     {
         let edge = EdgeTables::tables(alloc, sc)?;
         let exchange = ExchangeTables::tables(alloc, sc)?;
-        let two_looks = TwoLookTables::tables(alloc, sc, edge.units())?;
+        let two_looks = TwoLookTables::tables(alloc, sc)?;
         let tangent = TangentTables::tables(alloc, sc)?;
         let mean = Mean::tables(alloc, sc)?;
         Ok(Scratch {

@@ -38,8 +38,8 @@ impl BoundTables {
     {
         let tangent = TangentTables::tables(alloc, sc)?;
         let exchange = ExchangeTables::tables(alloc, sc)?;
+        let two_looks = TwoLookTables::tables(alloc, sc)?;
         let ceilings = Ceilings::tables(alloc, sc)?;
-        let two_looks = TwoLookTables::tables(alloc, sc, ceilings.edge.units())?;
         Ok(BoundTables {
             ceilings,
             tangent,
