@@ -5,13 +5,17 @@ use Rattle.search_grid.specs.Moves.{moves_from}
 use Rattle.search_model.specs.Problem.{Problem, IsProblem}
 use Rattle.search_model.specs.Legal.{IsLegal, walks, continuations, last_of, moves_after}
 use Rattle.search_model.specs.Bounds.{reward_of, greatest}
-use Rattle.search_model.specs.Edge.{edge_reward_of, sum_moves, edge_sum}
+use Rattle.search_model.specs.Edge.{edge_reward_of, sum_moves, edge_sum, edge_of}
+use Rattle.search_model.specs.Tracks.{value_of}
 use Rattle.search_model.proofs.LegalLemmas.{last_within}
-use Rattle.search_model.proofs.Greatest.{greatest-one}
+use Rattle.search_model.proofs.Greatest.{greatest-one, greatest-raised}
+use Rattle.search_model.proofs.Children.{some_moves}
+use Rattle.list_laws.proofs.Mapped.{map-map}
+use Rattle.std.proofs.lemmas.List.{length-map}
 use Rattle.list_laws.proofs.Agreeing.{map_agree}
 use Rattle.longest_walk.proofs.Steps.{greatest_walks-suc, All-moves}
 use Rattle.longest_walk.specs.Near.{IsNear}
-use Rattle.edge_bound.specs.Moves.{greatest_moves, HasGains}
+use Rattle.edge_bound.specs.Moves.{greatest_moves, through_of, HasGains, EdgeIsByMoves}
 
 pub sum_moves-cons : (r : ℕ → ℕ → ℕ → ℕ) (t a b : ℕ) (y : List ℕ) → sum_moves r t a (b ∷ y) ≡ r t a b + sum_moves r (t + 1) b y
 unfolding sum_moves
@@ -53,24 +57,41 @@ module _ (p : Problem) (q : List ℕ) where
       let long : p.horizon + 1 - t ≡ suc (p.horizon - t) = omega (arith, last) in
       rw long (greatest_walks-suc p.moves sound.grid (sum_moves r t a) (r t a) (λ b. sum_moves r (t + 1) b) (λ b y. sum_moves-cons r t a b y) (p.horizon - t) a at)
 
-module _ (p : Problem) (sound : IsProblem p) (q gains : List ℕ) where
-  -- the greatest sum over all continuations, by the rewards of the moves after the prefix with the sums that follow them
-  pub gains_first : IsLegal p q → length q < p.horizon → HasGains p q (length q + 1) gains →
-      greatest (map (edge_sum p q) (continuations p q)) ≡ greatest (map (λ b. slice_index gains b) (moves_after p q))
-  gains_first legal short filled =
+-- the reward of a look from a position next, and the greatest sum of edge rewards from there on
+abbrev next_sum : Problem → List ℕ → ℕ → ℕ
+next_sum p q b = reward_of p q (length q + 1) b + greatest_moves p.moves (edge_reward_of p q) (p.horizon - (length q + 1)) (length q + 2) b
+
+module _ (p : Problem) (sound : IsProblem p) (q : List ℕ) where
+  -- the greatest sum over all continuations, by way of the moves after the prefix
+  sums_first : IsLegal p q → length q < p.horizon → greatest (map (edge_sum p q) (continuations p q)) ≡ greatest (map (next_sum p q) (moves_after p q))
+  sums_first legal short =
       let r = edge_reward_of p q in
       let n = p.horizon - (length q + 1) in
       let a = last_of p.start q in
       let at : a < length p.moves = last_within p.moves sound.grid p.start (omega (arith, sound.start, sound.grid_positions)) q legal.follows in
       let long : p.horizon - length q ≡ suc n = omega (arith, short) in
-      let f : ℕ → ℕ = λ b. reward_of p q (length q + 1) b + greatest_moves p.moves r n (length q + 2) b in
+      rw long
+      (greatest_walks-suc p.moves sound.grid (edge_sum p q) (reward_of p q (length q + 1)) (λ b. sum_moves r (length q + 2) b) (λ b y. refl) n a at)
+
+  -- and by the rewards of these moves with the sums that follow them
+  pub gains_first : (gains : List ℕ) → IsLegal p q → length q < p.horizon → HasGains p q (length q + 1) gains →
+      greatest (map (edge_sum p q) (continuations p q)) ≡ greatest (map (λ b. slice_index gains b) (moves_after p q))
+  gains_first gains legal short filled =
       let g : ℕ → ℕ = λ b. slice_index gains b in
       let moves = moves_after p q in
       let two : length q + 1 + 1 ≡ length q + 2 = omega arith in
-      rw long
-      (greatest_walks-suc p.moves sound.grid (edge_sum p q) (reward_of p q (length q + 1)) (λ b. sum_moves r (length q + 2) b) (λ b y. refl) n a at
-      ∙ ap greatest (map_agree f g moves
-      (All-weaker (Contains moves) (λ b. f b ≡ g b) (λ b move. sym (rw two at (filled b 1 refl (inr (a, refl, move))))) moves (All-contains_itself moves))))
+      sums_first legal short
+      ∙ ap greatest (map_agree (next_sum p q) g moves
+      (All-weaker (Contains moves) (λ b. next_sum p q b ≡ g b) (λ b move. sym (rw two at (filled b 1 refl (inr (last_of p.start q, refl, move))))) moves (All-contains_itself moves)))
+
+  -- the edge bound by way of them
+  edge_first : IsLegal p q → length q < p.horizon → edge_of p q ≡ greatest (map (through_of p q) (moves_after p q))
+  edge_first legal short =
+      let moves = moves_after p q in
+      let some : 0 < length (map (next_sum p q) moves) = omega (arith, some_moves p q sound legal, length-map moves (next_sum p q)) in
+      ap (λ n. value_of p q + n) (sums_first legal short)
+      ∙ sym (greatest-raised (value_of p q) (map (next_sum p q) moves) some)
+      ∙ ap greatest (map-map (λ n. value_of p q + n) (next_sum p q) moves)
 
   -- each move is a position
   pub move_there : (a i : ℕ) → a < length p.moves → i < length (moves_from p.moves a) → slice_index (moves_from p.moves a) i < p.positions
@@ -80,3 +101,6 @@ module _ (p : Problem) (sound : IsProblem p) (q gains : List ℕ) where
 -- and one of the moves
 pub listed_move : (p : Problem) (a i : ℕ) (moves : List ℕ) → moves ≡ moves_from p.moves a → i < length moves → Contains (moves_from p.moves a) (slice_index moves i)
 listed_move p a i moves is inside = subst (λ xs. Contains xs (slice_index moves i)) is (Contains-get_or moves i 0 inside)
+
+pub edge_by_moves : EdgeIsByMoves
+edge_by_moves p q sound legal short = edge_first p sound q legal short

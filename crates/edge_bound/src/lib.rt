@@ -15,7 +15,7 @@ mod units;
 pub use along::{first_reward, next_reward};
 pub use best::taken_own;
 pub use edge::Edge;
-pub use laws::worked_edges;
+pub use laws::{edge_is_by_moves, worked_edges};
 pub use moves::{found_by, look_from, mass_at};
 pub use rows::fill_rewards;
 pub use shares::{fill_shares, taken_by_shares};

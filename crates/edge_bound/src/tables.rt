@@ -1,11 +1,12 @@
 //! The tables of the edge bound for who keeps the rest.
 
-ghost use Rattle.std.specs.Prelude.{◌≡◌, ◌<◌, ◌≤◌, ◌+◌, length, take, IfOk};
+ghost use Rattle.std.specs.Prelude.{◌≡◌, ◌<◌, ◌≤◌, ◌+◌, length, slice_index, take, IfOk};
 ghost use Rattle.search_model.specs.Legal.{IsLegal, IsPath};
 ghost use Rattle.search_model.specs.Edge.{edge_of};
 ghost use Rattle.search_model.specs.Tracks.{value_of};
 ghost use Rattle.longest_walk.specs.Near.{AreNear};
 ghost use Rattle.belief_update.specs.Onward.{IsOnward};
+ghost use Rattle.edge_bound.specs.Moves.{HasGains};
 ghost use Rattle.edge_bound.specs.Units.{HasUnits};
 
 use crate::along::sum_after;
@@ -66,7 +67,8 @@ fn bound_from(
     requires shares { length shares.old ≡ sc.now.cells }
     requires legal { IsLegal sc.now prefix.now }
     requires short { length prefix.now < sc.now.horizon }
-    ensures { result ≡ edge_of sc.now prefix.now }
+    ensures bound { result ≡ edge_of sc.now prefix.now }
+    ensures gains { HasGains sc.now prefix.now (length prefix.now + 1) gains.new }
 {
     sc.recall_sound();
     go_back(gains, earlier, shares, sc, near, prefix, onward, units);
@@ -122,7 +124,7 @@ impl EdgeTables {
     }
 
     /// The edge bound of a legal prefix shorter than the horizon, in parts of the whole weight, by the positions within
-    /// reach and the beliefs of the periods after the prefix. Takes no memory.
+    /// reach and the beliefs of the periods after the prefix. The tables then hold what `gain` answers. Takes no memory.
     pub fn bound_by(&mut self, sc: &Scenario, near: &Near, onward: &Onward, prefix: &Path) -> u128
         requires made { AreTablesFor sc.now self.old }
         requires near { AreNear sc.now.moves sc.now.horizon near.now }
@@ -130,6 +132,7 @@ impl EdgeTables {
         requires short { length prefix.now < sc.now.horizon }
         requires onward { IsOnward sc.now prefix.now onward.now }
         ensures bound { result ≡ edge_of sc.now prefix.now }
+        ensures gains { HasGains sc.now prefix.now (length prefix.now + 1) self.new.gains }
         ensures made { AreTablesFor sc.now self.new }
     {
         bound_from(
@@ -143,6 +146,15 @@ impl EdgeTables {
             near,
             prefix,
         )
+    }
+
+    /// What the last call of `bound_by` reached by way of this position: the reward of a look from there in the period
+    /// after the prefix, and the greatest sum of edge rewards from there on.
+    pub fn gain(&self, b: u8) -> u128
+        requires { b < length self.now.gains }
+        ensures { result ≡ slice_index self.now.gains b }
+    {
+        self.gains[usize::from(b)]
     }
 
     /// The same bound; or else, where a path that extends the prefix shows that the bound is at least `enough`, a number

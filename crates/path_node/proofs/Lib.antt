@@ -1,3 +1,4 @@
 mod Cutting
 mod Rates
 mod Fronts
+mod Throughs

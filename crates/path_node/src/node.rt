@@ -1,6 +1,6 @@
 //! Closing a prefix.
 
-ghost use Rattle.std.specs.Prelude.{◌≡◌, ◌<◌, ◌≤◌, ◌+◌, ℕ, length, IfOk, IfSome, IfNone, IsTrue, IsFalse};
+ghost use Rattle.std.specs.Prelude.{◌≡◌, ◌<◌, ◌≤◌, ◌+◌, ℕ, length, Contains, IfOk, IfSome, IfNone, IsTrue, IsFalse};
 ghost use Rattle.search_model.specs.Problem.{Problem};
 ghost use Rattle.search_model.specs.Legal.{IsLegal, moves_after};
 ghost use Rattle.search_model.specs.Bounds.{IsRate, mean_of, tangent_of};
@@ -11,7 +11,8 @@ ghost use Rattle.bound_tree.specs.Cut.{is_cut};
 ghost use Rattle.bound_tree.specs.Exchanges.{HasNoStandIn};
 ghost use Rattle.mean_bound.specs.Means.{IsMadeFor as IsMeanFor, IsAlong, IsFilledFor};
 ghost use Rattle.tangent_bound.specs.Room.{AreTablesFor as AreTangentTablesFor};
-ghost use Rattle.path_node.specs.Room.{IsMadeFor, TellsRate};
+ghost use Rattle.edge_bound.specs.Moves.{through_of};
+ghost use Rattle.path_node.specs.Room.{IsMadeFor, TellsRate, LooksThrough};
 
 use bound_tree::{Kind, TreeNode, cuts, in_parts};
 use edge_bound::EdgeTables;
@@ -86,6 +87,34 @@ impl Scratch {
         ensures made { IsMadeFor sc.now self.new }
     {
         scout(&mut self.mean, sc, first)
+    }
+
+    /// Goes to a legal prefix that is shorter than the horizon, and bounds it by way of each of its moves. Takes no memory.
+    pub fn look_through(&mut self, sc: &Scenario, prefix: &Path)
+        requires made { IsMadeFor sc.now self.old }
+        requires legal { IsLegal sc.now prefix.now }
+        requires shorter { length prefix.now < sc.now.horizon }
+        ensures made { IsMadeFor sc.now self.new }
+        ensures looks { LooksThrough sc.now prefix.now self.new }
+    {
+        self.mean.go_to(sc, prefix);
+        let near = self.mean.near();
+        let onward = self.mean.onward();
+        self.edge.bound_by(sc, near, onward, prefix);
+    }
+
+    /// The edge bound of the prefix that was looked through last by way of one of its moves.
+    pub fn through(&self, sc: &Scenario, prefix: &Path, b: u8) -> u128
+        requires made { IsMadeFor sc.now self.now }
+        requires looks { LooksThrough sc.now prefix.now self.now }
+        requires legal { IsLegal sc.now prefix.now }
+        requires shorter { length prefix.now < sc.now.horizon }
+        requires step { Contains (moves_after sc.now prefix.now) b }
+        ensures { result ≡ through_of sc.now prefix.now b }
+    {
+        let _after = prefix;
+        sc.recall_sound();
+        self.mean.onward().value() + self.edge.gain(b)
     }
 }
 

@@ -13,7 +13,7 @@ bounds-gains-from c =
     let sound = c.moves_after-moves.ensures.sound in
     let here = last_within p.moves sound.grid p.start (omega (arith, sound.start, sound.grid_positions)) q c.requires.legal.follows in
     let moves : c.moves_after-moves.result.now ≡ moves_from p.moves (last_of p.start q) = c.moves_after-moves.ensures.value in
-    let there = rw (← moves) at (move_there p sound q c.args.gains.now (last_of p.start q) c.loop-b.b-index here (rw moves at c.loop-b-test.true)) in
+    let there = rw (← moves) at (move_there p sound q (last_of p.start q) c.loop-b.b-index here (rw moves at c.loop-b-test.true)) in
     omega (arith, there, c.from.ensures, c.requires.width)
 
 pub loop-b-preserved : goal.loop-b-preserved
