@@ -17,7 +17,7 @@ use exact_parts::NoMemory;
 use gap_plan::{GapPlan, make_gap};
 use opening_path::opening;
 use search_model::Scenario;
-use search_workers::{Gate, SearchStop, search};
+use search_workers::{Gate, Order, SearchStop, search};
 use std::alloc::Global;
 use std::sync::Wait;
 use std::thread::Threads;
@@ -49,6 +49,18 @@ fn text_of_gap(alloc: Global, sc: &Scenario, plan: &GapPlan) -> Result<Vec<u8>, 
     Ok(text)
 }
 
+// From so many periods on a gap plan's search closes the greatest number first.
+const LEAST_ORDERED: u32 = 4;
+
+// In which order the search of a gap plan closes.
+fn order_for(sc: &Scenario) -> Order {
+    if sc.horizon() < LEAST_ORDERED {
+        Order::DepthFirst
+    } else {
+        Order::GreatestFirst
+    }
+}
+
 /// The text of the gap plan of a scenario: a path with its exact value, the value that no path exceeds, and the nodes that
 /// show why none does. No scenario is without.
 pub fn gapped<R: AllocGlobal + Threads + Wait + Sync, G: Gate>(
@@ -64,7 +76,7 @@ pub fn gapped<R: AllocGlobal + Threads + Wait + Sync, G: Gate>(
 {
     sc.recall_sound();
     let first = opening(rt.alloc(), sc)?;
-    match search(rt, sc, &first, workers, nodes, gate) {
+    match search(rt, sc, &first, workers, nodes, order_for(sc), gate) {
         Ok(found) => {
             let plan = plan_found(sc, found);
             Ok(text_of_found(rt.alloc(), sc, &plan)?)

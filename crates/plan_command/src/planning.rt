@@ -15,7 +15,7 @@ use bound_tree::Plan;
 use exact_parts::NoMemory;
 use opening_path::opening;
 use search_model::Scenario;
-use search_workers::{Found, Gate, SearchStop, search};
+use search_workers::{Found, Gate, Order, SearchStop, search};
 use std::alloc::Global;
 use std::sync::Wait;
 use std::thread::Threads;
@@ -45,7 +45,7 @@ pub fn plan_from_opening<R: AllocGlobal + Threads + Wait + Sync, G: Gate>(
     ensures { PlansFor nodes sc.now result }
 {
     let first = opening(rt.alloc(), sc)?;
-    match search(rt, sc, &first, workers, nodes, gate) {
+    match search(rt, sc, &first, workers, nodes, Order::DepthFirst, gate) {
         Ok(found) => Ok(plan_found(sc, found)),
         Err(SearchStop::Full(_)) => Err(Stop::Refused(Refusal::TooManyNodes(nodes))),
         Err(SearchStop::NoMemory) => Err(Stop::NoMemory),

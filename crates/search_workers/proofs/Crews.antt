@@ -1,5 +1,5 @@
 -- What the workers bring back together.
-use Rattle.std.proofs.Common.{◌≡◌, ℕ, suc, ◌+◌, ◌<◌, List, [], ◌∷◌, ◌++◌, map, length, get_or, refl, sym, ap, ◌∙◌, subst, arith, All, flat_map, IsPermutation}
+use Rattle.std.proofs.Common.{◌≡◌, ℕ, suc, ◌+◌, ◌<◌, List, [], ◌∷◌, ◌++◌, map, length, get_or, refl, sym, ap, ◌∙◌, subst, arith, All, flat_map}
 use Rattle.std.proofs.lemmas.List.{length-map, get_or-map}
 use Rattle.std.proofs.lemmas.List.Elements.{All-map, All-weaker}
 use Rattle.search_model.specs.declared.standing.Standing.{Standing}
@@ -11,7 +11,7 @@ use Rattle.steal_pool.specs.Kits.{KitView, put_of, taken_of}
 use Rattle.steal_pool.specs.Pools.{EachAt, IsWhole}
 use Rattle.search_core.specs.Counts.{count_of, SameItems}
 use Rattle.search_core.specs.Balance.{MeetsEquation}
-use Rattle.search_core.proofs.Counts.{SameItems-permutation}
+use Rattle.search_core.proofs.Counts.{count_of-append}
 use Rattle.tree_gather.specs.Hauls.{Haul, IsHaulBalanced, records_of, waiting_of, idle_haul}
 use Rattle.tree_gather.proofs.Hauls.{all_hauls_are_even}
 use Rattle.tree_gather.proofs.Left.{tasks_wait, nothing_waits}
@@ -45,6 +45,20 @@ crew_began (m ∷ crew) some whole =
     let others = others_began 0 crew (λ i k at. let there = (whole.each (suc i) k at).1 in omega (arith, there)) in
     ap (λ (n : ℕ). begun_by n ++ flat_map (λ (m : Member). begun_by m.worker.kit.place) crew) here ∙ ap (λ (qs : List (List ℕ)). ([] ∷ []) ++ qs) others
 
+-- what all put into their deques, and what all have on their agendas, is what all put
+put_together : (crew : List Member) (q : List ℕ) →
+    count_of q (flat_map (λ m. (haul_of m.worker).put) crew) ≡ count_of q (flat_map (λ m. put_of m.worker.kit) crew) + count_of q (flat_map (λ m. m.worker.agenda) crew)
+put_together [] q = refl
+put_together (m ∷ crew) q =
+    omega (
+      arith,
+      put_together crew q,
+      count_of-append q (put_of m.worker.kit ++ m.worker.agenda) (flat_map (λ m. (haul_of m.worker).put) crew),
+      count_of-append q (put_of m.worker.kit) m.worker.agenda,
+      count_of-append q (put_of m.worker.kit) (flat_map (λ m. put_of m.worker.kit) crew),
+      count_of-append q m.worker.agenda (flat_map (λ m. m.worker.agenda) crew),
+    )
+
 abbrev hauls : List Member → List Haul
 hauls crew = map (λ m. haul_of m.worker) crew
 
@@ -53,7 +67,7 @@ module _ (p : Problem) (t : TicketsView) (b : BoardView) (crew : List Member) (t
   desks = map (λ m. m.worker.desk) crew
 
   -- their hauls and the tasks left meet the balance equation
-  even_crew : 0 < length crew → IsPermutation (flat_map put_of (map (λ m. m.worker.kit) crew)) (flat_map taken_of (map (λ m. m.worker.kit) crew) ++ tasks) →
+  even_crew : 0 < length crew → SameItems (flat_map put_of (map (λ m. m.worker.kit) crew) ++ flat_map (λ m. m.worker.agenda) crew) (flat_map taken_of (map (λ m. m.worker.kit) crew) ++ tasks) →
       MeetsEquation p [] (waiting_at tasks desks) (closed_at desks)
   even_crew some left =
       let kit : Member → KitView (List ℕ) = λ m. m.worker.kit in
@@ -61,10 +75,22 @@ module _ (p : Problem) (t : TicketsView) (b : BoardView) (crew : List Member) (t
       let desk : Member → DeskView = λ m. m.worker.desk in
       let balanced = All-map (IsHaulBalanced p) haul crew (All-weaker (HasGone p b.first) (λ m. IsHaulBalanced p (haul_of m.worker)) (λ m g. g.balanced) crew gone) in
       let began : flat_map (λ h. h.began) (hauls crew) ≡ [] ∷ [] = flat_map-map (λ (h : Haul). h.began) haul crew ∙ crew_began crew some complete.kits in
-      let put : flat_map put_of (map kit crew) ≡ flat_map (λ h. h.put) (hauls crew) = flat_map-map put_of kit crew ∙ sym (flat_map-map (λ (h : Haul). h.put) haul crew) in
+      let agenda : Member → List (List ℕ) = λ m. m.worker.agenda in
+      let put : flat_map put_of (map kit crew) ≡ flat_map (λ m. put_of m.worker.kit) crew = flat_map-map put_of kit crew in
+      let both : flat_map (λ h. h.put) (hauls crew) ≡ flat_map (λ m. (haul_of m.worker).put) crew = flat_map-map (λ (h : Haul). h.put) haul crew in
       let taken : flat_map taken_of (map kit crew) ≡ flat_map (λ h. h.taken) (hauls crew) = flat_map-map taken_of kit crew ∙ sym (flat_map-map (λ (h : Haul). h.taken) haul crew) in
-      let same : SameItems (flat_map (λ h. h.put) (hauls crew)) (flat_map (λ h. h.taken) (hauls crew) ++ tasks) =
-      rw (← put, ← taken) (SameItems-permutation (flat_map put_of (map kit crew)) (flat_map taken_of (map kit crew) ++ tasks) left) in
+      let same : SameItems (flat_map (λ h. h.put) (hauls crew)) (flat_map (λ h. h.taken) (hauls crew) ++ tasks) = λ q.
+      omega (
+        arith,
+        left q,
+        put_together crew q,
+        ap (count_of q) put,
+        ap (count_of q) both,
+        ap (count_of q) taken,
+        count_of-append q (flat_map put_of (map kit crew)) (flat_map agenda crew),
+        count_of-append q (flat_map taken_of (map kit crew)) tasks,
+        count_of-append q (flat_map (λ h. h.taken) (hauls crew)) tasks,
+      ) in
       let even = all_hauls_are_even p tasks (idle_haul b.first tasks ∷ hauls crew)
       (tasks_wait p b.first tasks (hauls crew) balanced (λ q. ap (count_of q) began) same) in
       let waiting : waiting_of (hauls crew) ≡ flat_map (λ d. d.waiting) desks = flat_map-map (λ (h : Haul). h.waiting) haul crew ∙ sym (flat_map-map (λ (d : DeskView). d.waiting) desk crew) in
@@ -75,7 +101,7 @@ module _ (p : Problem) (t : TicketsView) (b : BoardView) (crew : List Member) (t
   order_crew : All (IsInOrder p b.first) desks
   order_crew = All-map (IsInOrder p b.first) (λ (m : Member). m.worker.desk) crew (All-weaker (HasGone p b.first) (λ m. IsInOrder p b.first m.worker.desk) (λ m g. g.order) crew gone)
 
-  pub settled_crew : 0 < length crew → IsPermutation (flat_map put_of (map (λ m. m.worker.kit) crew)) (flat_map taken_of (map (λ m. m.worker.kit) crew) ++ tasks) →
+  pub settled_crew : 0 < length crew → SameItems (flat_map put_of (map (λ m. m.worker.kit) crew) ++ flat_map (λ m. m.worker.agenda) crew) (flat_map taken_of (map (λ m. m.worker.kit) crew) ++ tasks) →
       IsSettled p t b tasks desks
   settled_crew some left = record {
     tickets = subst (AreAllTickets t) (sym (map-map (λ (d : DeskView). d.ticket) (λ (m : Member). m.worker.desk) crew)) complete.tickets;

@@ -1,22 +1,15 @@
 -- Where the children of a prefix are, once they were disposed of.
-use Rattle.std.proofs.Common.{◌≡◌, ℕ, ◌+◌, ◌*◌, ◌-◌, ◌<◌, ◌≤◌, Bool, true, false, List, [], ◌∷◌, ◌++◌, reverse, length, inl, inr, refl, sym, ap, ◌∙◌, subst, arith, All, Contains, length-append, append_assoc}
+use Rattle.std.proofs.Common.{◌≡◌, ℕ, ◌+◌, ◌*◌, ◌-◌, ◌<◌, ◌≤◌, Bool, true, false, List, [], ◌∷◌, ◌++◌, reverse, length, inl, inr, refl, sym, ap, ◌∙◌, subst, arith, All, Contains, length-append, append_assoc, append-nil}
 use Rattle.std.proofs.lemmas.Bool.{cases_lt}
 use Rattle.std.proofs.lemmas.List.{length-reverse, get_or_append_left, get_or-append_right}
-use Rattle.std.proofs.lemmas.List.Elements.{All-push, All-append, All-weaker, All-contains, All-contains_itself, Contains-append_right}
+use Rattle.std.proofs.lemmas.List.Elements.{All-nil, All-push, All-append, All-weaker, All-contains, All-contains_itself, Contains-append_right}
 use Rattle.std.proofs.lemmas.List.Sorted.{IsPermutation-reverse, All-permutation}
 use Rattle.list_laws.proofs.Members.{Contains-head, Contains-tail}
 use Rattle.search_core.specs.Counts.{count_of, SameItems}
 use Rattle.search_core.proofs.Counts.{count_of-append, SameItems-permutation}
 use Rattle.steal_pool.specs.Kits.{KitView, put_of, taken_of}
-use Rattle.search_workers.specs.Children.{Shares, OnlyPut, Disposes}
+use Rattle.search_workers.specs.Children.{Shares, OnlyPut, Disposes, Wait, HandsOn}
 use Rattle.search_workers.specs.Desks.{HasRoom}
-
--- some of the children wait now, above what waited before
-pub record Wait (children waiting waiting' : List (List ℕ)) : Type 0 where
-  pub some : List (List ℕ)
-  pub last : waiting' ≡ waiting ++ some
-  pub few : length some ≤ length children
-  pub among : All (Contains children) some
 
 waits_shared : (children put waiting put' waiting' : List (List ℕ)) → Shares children put waiting put' waiting' → Wait children waiting waiting'
 waits_shared children put waiting put' waiting' s =
@@ -86,6 +79,42 @@ disposed_kit children false kit waiting kit' waiting' d = record {
   place = ap (λ k. k.place) d.0;
   taken = ap taken_of d.0;
   misses = ap (λ k. k.misses) d.0;
+}
+
+-- the children that were disposed of are handed on beside an agenda
+pub disposed_on : (children : List (List ℕ)) (shares : Bool) (kit : KitView (List ℕ)) (agenda waiting : List (List ℕ)) (kit' : KitView (List ℕ)) (waiting' : List (List ℕ)) →
+    Disposes children shares kit waiting kit' waiting' → HandsOn children kit agenda waiting kit' agenda waiting'
+disposed_on children shares kit agenda waiting kit' waiting' d = record {
+  only = disposed_kit children shares kit waiting kit' waiting' d;
+  same = λ q. omega (
+    arith,
+    disposed_same children shares kit waiting kit' waiting' d q,
+    count_of-append q (put_of kit' ++ agenda) waiting',
+    count_of-append q (put_of kit) agenda,
+    count_of-append q (put_of kit') agenda,
+    count_of-append q (put_of kit) (waiting ++ children),
+    count_of-append q (put_of kit ++ agenda) (waiting ++ children),
+    count_of-append q (put_of kit') waiting',
+  );
+  wait = waits children shares kit waiting kit' waiting' d;
+}
+
+-- and so are those that were put on it
+pub kept_on : (children : List (List ℕ)) (kit : KitView (List ℕ)) (agenda waiting agenda' : List (List ℕ)) → SameItems agenda' (agenda ++ children) →
+    HandsOn children kit agenda waiting kit agenda' waiting
+kept_on children kit agenda waiting agenda' same = record {
+  only = record { pool = refl; place = refl; taken = refl; misses = refl };
+  same = λ q. omega (
+    arith,
+    same q,
+    count_of-append q agenda children,
+    count_of-append q (put_of kit ++ agenda') waiting,
+    count_of-append q (put_of kit) agenda',
+    count_of-append q (put_of kit) agenda,
+    count_of-append q (put_of kit ++ agenda) (waiting ++ children),
+    count_of-append q waiting children,
+  );
+  wait = record { some = []; last = sym (append-nil waiting); few = omega arith; among = All-nil (Contains children) };
 }
 
 -- what holds of all that waited and of all children holds of all that waits now

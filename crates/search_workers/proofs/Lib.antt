@@ -1,3 +1,4 @@
+mod Agendas
 mod Balanced
 mod BroughtIn
 mod Concluded

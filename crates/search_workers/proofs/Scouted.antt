@@ -80,18 +80,18 @@ scouted_same old new s = record {
 }
 
 -- its worker is ready as before
-pub scouted_ready : (p : Problem) (first : Standing) (kit : KitView (List ℕ)) (old new : DeskView) → Scouts old new → IsInOrder p first new →
-    IsReady p first (record { kit = kit; desk = old }) → IsReady p first (record { kit = kit; desk = new })
-scouted_ready p first kit old new s order ready = record {
+pub scouted_ready : (p : Problem) (first : Standing) (kit : KitView (List ℕ)) (agenda : List (List ℕ)) (old new : DeskView) → Scouts old new → IsInOrder p first new →
+    IsReady p first (record { kit = kit; agenda = agenda; desk = old }) → IsReady p first (record { kit = kit; agenda = agenda; desk = new })
+scouted_ready p first kit agenda old new s order ready = record {
   order = order;
   legal = subst (All (IsLegal p)) (sym s.stays.waiting) ready.legal;
-  balanced = stays_balanced p kit old new ready.balanced s.stays;
+  balanced = stays_balanced p kit agenda old new ready.balanced s.stays;
 }
 
 -- what it does from there it did from the start
-pub went_from : (p : Problem) (first : Standing) (kit : KitView (List ℕ)) (old mid : DeskView) (left : Left) (new : WorkerView) → Scouts old mid →
-    Went p first (record { kit = kit; desk = mid }) left new → Went p first (record { kit = kit; desk = old }) left new
-went_from p first kit old mid left new s went = record {
+pub went_from : (p : Problem) (first : Standing) (kit : KitView (List ℕ)) (agenda : List (List ℕ)) (old mid : DeskView) (left : Left) (new : WorkerView) → Scouts old mid →
+    Went p first (record { kit = kit; agenda = agenda; desk = mid }) left new → Went p first (record { kit = kit; agenda = agenda; desk = old }) left new
+went_from p first kit agenda old mid left new s went = record {
   same = record { pool = went.same.pool; place = went.same.place; desk = same_then old mid new.desk (scouted_same old mid s) went.same.desk };
   balanced = went.balanced;
   order = went.order;

@@ -1,6 +1,7 @@
 -- What a worker does with the children of a prefix that branches.
-use Rattle.std.specs.Prelude.{◌≡◌, ℕ, ◌<◌, Bool, true, false, List, [], ◌∷◌, ◌++◌, length, reverse}
+use Rattle.std.specs.Prelude.{◌≡◌, ℕ, ◌<◌, ◌≤◌, Bool, true, false, List, [], ◌∷◌, ◌++◌, length, reverse, All, Contains}
 use Rattle.steal_pool.specs.Kits.{KitView, put_of, taken_of}
+use Rattle.search_core.specs.Counts.{SameItems}
 
 -- these tasks were put into the own deque in their order, but for those that it handed back because it had taken 4,096
 -- tasks, which wait now
@@ -32,3 +33,16 @@ pub record OnlyPut {T : Type 0} (old new : KitView T) : Type 0 where
 abbrev pub Disposes : List (List ℕ) → Bool → KitView (List ℕ) → List (List ℕ) → KitView (List ℕ) → List (List ℕ) → Type 0
 Disposes children true kit waiting kit' waiting' = Shares children (put_of kit) waiting (put_of kit') waiting' × OnlyPut kit kit'
 Disposes children false kit waiting kit' waiting' = (kit' ≡ kit) × (waiting' ≡ waiting ++ reverse children)
+
+-- some of the children wait now, above what waited before
+pub record Wait (children waiting waiting' : List (List ℕ)) : Type 0 where
+  pub some : List (List ℕ)
+  pub last : waiting' ≡ waiting ++ some
+  pub few : length some ≤ length children
+  pub among : All (Contains children) some
+
+-- the children were put into the own deque or on the agenda, or wait on the private stack, and none is lost
+pub record HandsOn (children : List (List ℕ)) (kit : KitView (List ℕ)) (agenda waiting : List (List ℕ)) (kit' : KitView (List ℕ)) (agenda' waiting' : List (List ℕ)) : Type 0 where
+  pub only : OnlyPut kit kit'
+  pub same : SameItems ((put_of kit' ++ agenda') ++ waiting') ((put_of kit ++ agenda) ++ (waiting ++ children))
+  pub wait : Wait children waiting waiting'

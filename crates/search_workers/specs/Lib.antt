@@ -1,3 +1,4 @@
+pub mod Agendas
 pub mod Children
 pub mod Crew
 pub mod Desks

@@ -1,5 +1,5 @@
 -- What contracts see of a worker, and what its run promises.
-use Rattle.std.specs.Prelude.{◌≡◌, ℕ, zero, suc, ◌*◌, ◌<◌, ◌≤◌, ◌⊎◌, List, [], ◌∷◌, length, All, Contains}
+use Rattle.std.specs.Prelude.{◌≡◌, ℕ, zero, suc, ◌*◌, ◌<◌, ◌≤◌, ◌⊎◌, List, [], ◌∷◌, ◌++◌, length, All, Contains}
 use Rattle.search_model.specs.declared.standing.Standing.{Standing}
 use Rattle.search_model.specs.Problem.{Problem}
 use Rattle.search_model.specs.Legal.{IsLegal}
@@ -11,9 +11,10 @@ use Rattle.search_workers.specs.declared.left.Left.TheVariants.{Idle, Full, NoMe
 use Rattle.search_workers.specs.Rounds.{others}
 use Rattle.search_workers.specs.Desks.{DeskView, haul_at, IsInOrder, IsSameDesk, DrewFull}
 
--- a worker: its kit and its desk
+-- a worker: its kit, the prefixes on its agenda, and its desk
 pub record WorkerView : Type 0 where
   pub kit : KitView (List ℕ)
+  pub agenda : List (List ℕ)
   pub desk : DeskView
 
 -- worker 0 begins with the empty prefix, and the others with nothing
@@ -21,9 +22,9 @@ abbrev pub begun_by : ℕ → List (List ℕ)
 begun_by zero = [] ∷ []
 begun_by (suc place) = []
 
--- what a worker brings back
+-- what a worker brings back: what it has on its agenda it put
 abbrev pub haul_of : WorkerView → Haul
-haul_of w = haul_at w.desk (begun_by w.kit.place) (put_of w.kit) (taken_of w.kit)
+haul_of w = haul_at w.desk (begun_by w.kit.place) (put_of w.kit ++ w.agenda) (taken_of w.kit)
 
 -- a worker that may go: its desk is in order, what waits there is legal, and its haul is balanced
 pub record IsReady (p : Problem) (first : Standing) (w : WorkerView) : Type 0 where
@@ -32,9 +33,9 @@ pub record IsReady (p : Problem) (first : Standing) (w : WorkerView) : Type 0 wh
   pub balanced : IsHaulBalanced p (haul_of w)
 
 -- why a worker left. Full: it drew a number at the limit or above it, and a legal prefix waits. Idle: no legal prefix
--- waits; one that isn't legal does, or 1,024 steals in a row at each other worker got no task
+-- waits; one that isn't legal does, or nothing is on the agenda and 1,024 steals in a row at each other worker got no task
 abbrev pub LeavesAs : Problem → WorkerView → Left → Type 0
-LeavesAs p w Idle = MayDraw w.desk.ticket × All (λ q. ¬ IsLegal p q) w.desk.waiting × ((0 < length w.desk.waiting) ⊎ (1024 * others w.kit ≤ w.kit.misses))
+LeavesAs p w Idle = MayDraw w.desk.ticket × All (λ q. ¬ IsLegal p q) w.desk.waiting × ((0 < length w.desk.waiting) ⊎ ((w.agenda ≡ []) × (1024 * others w.kit ≤ w.kit.misses)))
 LeavesAs p w Full = DrewFull w.desk.ticket × ((q : List ℕ) × Contains w.desk.waiting q × IsLegal p q)
 LeavesAs p w NoMemory = MayDraw w.desk.ticket
 

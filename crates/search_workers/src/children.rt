@@ -1,14 +1,18 @@
 //! What a worker does with the children of a prefix.
 
-ghost use Rattle.std.specs.Prelude.{◌≡◌, ◌+◌, ◌*◌, ◌<◌, ◌≤◌, ◌++◌, length, nat_lt, reverse};
+ghost use Rattle.std.specs.Prelude.{◌≡◌, ◌+◌, ◌*◌, ◌<◌, ◌≤◌, ◌++◌, length, nat_lt, reverse, IsTrue};
+ghost use Rattle.std.specs.BinaryHeap.{heap_len, heap_capacity};
 ghost use Rattle.search_model.specs.Legal.{IsLegal};
 ghost use Rattle.bound_tree.specs.Accepts.{children_by, children_of};
 ghost use Rattle.steal_pool.specs.Kits.{put_of};
-ghost use Rattle.search_workers.specs.Children.{Puts, Shares, OnlyPut, Disposes};
+ghost use Rattle.path_node.specs.Room.{IsMadeFor};
+ghost use Rattle.search_workers.specs.Agendas.{kept};
+ghost use Rattle.search_workers.specs.Children.{Puts, Shares, OnlyPut, Disposes, HandsOn};
 
+use crate::agenda::Agenda;
 use crate::stack::Stack;
 use bound_tree::extended;
-use path_node::children;
+use path_node::{Scratch, children};
 use search_model::{Path, Scenario};
 use steal_pool::Kit;
 
@@ -70,5 +74,31 @@ pub fn dispose(kit: &mut Kit<Path>, stack: &mut Stack, sc: &Scenario, prefix: &P
         share_children(kit, stack, sc, prefix);
     } else {
         stack_children(stack, sc, prefix);
+    }
+}
+
+/// Hands the children of the prefix that was closed last on, where so many were closed: to the agenda where the greatest
+/// number comes first, else as `dispose` does.
+pub fn hand_on(
+    kit: &mut Kit<Path>,
+    agenda: &mut Agenda,
+    stack: &mut Stack,
+    scratch: &mut Scratch,
+    sc: &Scenario,
+    prefix: &Path,
+    closed: usize,
+)
+    requires legal { IsLegal sc.now prefix.now }
+    requires shorter { length prefix.now < sc.now.horizon }
+    requires room { length stack.old ≤ 63 * length prefix.now }
+    requires agenda { IsTrue agenda.old.by_number → heap_len agenda.old.heap + 64 ≤ heap_capacity agenda.old.heap }
+    requires made { IsMadeFor sc.now scratch.old }
+    ensures hands_on { HandsOn (children_of sc.now prefix.now) kit.old (kept agenda.old) stack.old kit.new (kept agenda.new) stack.new }
+    ensures made { IsMadeFor sc.now scratch.new }
+{
+    if agenda.by_number {
+        agenda.push_children(scratch, sc, prefix, closed);
+    } else {
+        dispose(kit, stack, sc, prefix);
     }
 }

@@ -2,6 +2,7 @@
 //! deques, and the best standing through a board.
 #![tactic(auto)]
 
+mod agenda;
 mod answer;
 mod children;
 mod closing;
@@ -14,6 +15,7 @@ mod incumbent;
 mod joins;
 mod left;
 mod muster;
+mod next;
 mod pause;
 mod room;
 mod rounds;
@@ -24,6 +26,7 @@ mod sending;
 mod stack;
 mod worker;
 
+pub use agenda::Order;
 pub use answer::{Found, Partial, SearchStop};
 pub use gate::{Gate, OpenGate};
 pub use left::Left;

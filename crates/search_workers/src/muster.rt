@@ -10,6 +10,7 @@ ghost use Rattle.search_workers.specs.Crew.{IsComplete, MayGo};
 ghost use Rattle.search_workers.specs.Rooms.{IsRoomFor};
 ghost use Rattle.bound_tree.specs.declared.tree.TheConstants.{MOST_NODES};
 
+use crate::agenda::Order;
 use crate::crew::Member;
 use crate::left::Left;
 use crate::room::Room;
@@ -38,6 +39,7 @@ fn man_all(
     mut kits: Vec<Kit<Path>>,
     mut tickets: Vec<TicketSeat>,
     mut seats: Vec<BoardSeat>,
+    order: Order,
 ) -> Result<Vec<Member>, NoMemory>
     requires exact { IsExact sc.now first.now }
     requires kits { All IsFreshKit kits.items }
@@ -57,7 +59,7 @@ fn man_all(
         let Some(seat) = seats.pop() else {
             unreachable!()
         };
-        let worker = Worker::new(alloc, sc, first, kit, seat, ticket)?;
+        let worker = Worker::new(alloc, sc, first, kit, seat, ticket, order)?;
         crew.push(Member {
             worker,
             left: Left::Idle,
@@ -74,6 +76,7 @@ pub fn muster(
     first: &Standing,
     workers: u32,
     nodes: u64,
+    order: Order,
 ) -> Result<Crew, NoMemory>
     requires exact { IsExact sc.now first.now }
     requires workers { (1 ≤ workers) × (workers ≤ 16) }
@@ -90,7 +93,7 @@ pub fn muster(
     let (tickets, ticket_seats) = Tickets::start(alloc, nodes, workers)?;
     let (board, seats) = Board::start(alloc, *first, workers)?;
     let room = Room::new(alloc, workers as usize)?;
-    let members = man_all(alloc, sc, first, kits, ticket_seats, seats)?;
+    let members = man_all(alloc, sc, first, kits, ticket_seats, seats, order)?;
     Ok(Crew {
         tickets,
         board,

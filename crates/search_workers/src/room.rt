@@ -3,6 +3,7 @@
 ghost use Rattle.std.specs.Prelude.{◌≡◌, ◌<◌, ◌≤◌, ◌++◌, ◌∷◌, [], vec_len, vec_capacity, IfOk};
 ghost use Rattle.search_workers.specs.Rooms.{IsRoomFor};
 
+use crate::agenda::Agenda;
 use crate::desk::Desk;
 use exact_parts::NoMemory;
 use incumbent_board::BoardSeat;
@@ -11,12 +12,13 @@ use search_model::Path;
 use std::alloc::Global;
 use steal_pool::Kit;
 
-/// Room for the kits, the desks and the seats of all workers. It is taken before they go, so that the tickets and the board
+/// Room for the kits, the agendas, the desks and the seats of all workers. It is taken before they go, so that the tickets and the board
 /// can be closed with all their seats at the end even where memory has run out. The passes of the deques are joined by
 /// `settle`, which takes memory of its own, and are dropped where it is refused.
 #[derive(Drop)]
 pub struct Room {
     pub kits: Vec<Kit<Path>>,
+    pub agendas: Vec<Agenda>,
     pub desks: Vec<Desk>,
     pub tickets: Vec<TicketSeat>,
     pub seats: Vec<BoardSeat>,
@@ -29,6 +31,7 @@ impl Room {
     {
         Ok(Room {
             kits: Vec::with_capacity(alloc, workers)?,
+            agendas: Vec::with_capacity(alloc, workers)?,
             desks: Vec::with_capacity(alloc, workers)?,
             tickets: Vec::with_capacity(alloc, workers)?,
             seats: Vec::with_capacity(alloc, workers)?,

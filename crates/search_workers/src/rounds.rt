@@ -36,7 +36,7 @@ fn steal_from_others(kit: &mut Kit<Path>) -> Option<Path>
 }
 
 // A round: the first task of the own deque, else one that is stolen.
-fn take_in_round(kit: &mut Kit<Path>) -> Option<Path>
+pub fn take_in_round(kit: &mut Kit<Path>) -> Option<Path>
     ensures got { IfSome result (λ task. TookOne kit.old task kit.new) }
     ensures none { IfNone result (MissedAll kit.old (others kit.old) kit.new) }
 {

@@ -7,6 +7,7 @@ ghost use Rattle.search_workers.specs.Seen.{desk_view, worker_view};
 ghost use Rattle.search_workers.specs.Steps.{Scouts};
 ghost use Rattle.search_workers.specs.Workers.{IsReady};
 
+use crate::agenda::Agenda;
 use crate::desk::Desk;
 use incumbent_board::Board;
 use search_model::{Path, Scenario};
@@ -34,13 +35,21 @@ impl Desk {
 
 /// Sends a scout before the first closing of a search of 4 or more periods: the worker that begins with the empty prefix
 /// does. May wait. Takes no memory.
-pub fn scout_first<R: Wait>(kit: &Kit<Path>, desk: &mut Desk, rt: &R, sc: &Scenario, board: &Board)
+pub fn scout_first<R: Wait>(
+    kit: &Kit<Path>,
+    agenda: &Agenda,
+    desk: &mut Desk,
+    rt: &R,
+    sc: &Scenario,
+    board: &Board,
+)
     requires seat { IsSeatOf board.now desk.old.incumbent.seat }
     requires first { IsExact sc.now board.now.first }
-    requires ready { IsReady sc.now board.now.first (worker_view kit.now desk.old) }
+    requires ready { IsReady sc.now board.now.first (worker_view kit.now agenda.now desk.old) }
     ensures scouts { Scouts (desk_view desk.old) (desk_view desk.new) }
-    ensures ready { IsReady sc.now board.now.first (worker_view kit.now desk.new) }
+    ensures ready { IsReady sc.now board.now.first (worker_view kit.now agenda.now desk.new) }
 {
+    let _kept = agenda;
     if kit.place() == 0 && sc.horizon() >= LEAST_HORIZON {
         desk.scout(rt, sc, board);
     }

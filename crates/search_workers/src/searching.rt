@@ -14,6 +14,7 @@ ghost use Rattle.search_workers.specs.Harvests.{EndsHarvest};
 ghost use Rattle.search_workers.specs.Search.{plan_of, IfFull, StopsAtLimit};
 ghost use Rattle.bound_tree.specs.declared.tree.TheConstants.{MOST_NODES};
 
+use crate::agenda::{Agenda, Order};
 use crate::answer::{Found, Partial, SearchStop};
 use crate::crew::{Member, go_all};
 use crate::desk::Desk;
@@ -59,14 +60,16 @@ fn wind_up<R: Wait + AllocGlobal>(
     board: &Board,
     members: Vec<Member>,
     kits: Vec<Kit<Path>>,
+    agendas: Vec<Agenda>,
     desks: Vec<Desk>,
 ) -> (Left, Vec<Desk>, Vec<Path>)
     requires first { IsExact sc.now board.now.first }
     requires some { 0 < length members.items }
     requires complete { IsComplete tickets.now board.now members.items }
     requires gone { All (HasGone sc.now board.now.first) members.items }
-    requires empty { (kits.items ≡ []) × (desks.items ≡ []) }
-    requires room { (length members.items ≤ vec_capacity kits) × (length members.items ≤ vec_capacity desks) }
+    requires empty { (kits.items ≡ []) × (agendas.items ≡ []) × (desks.items ≡ []) }
+    requires room { (length members.items ≤ vec_capacity kits) × (length members.items ≤ vec_capacity agendas) ×
+        (length members.items ≤ vec_capacity desks) }
     ensures many { length result.1.items ≡ length members.items }
     ensures tickets { AreAllTickets tickets.now (map (λ d. d.ticket) (map desk_view result.1.items)) }
     ensures seats { AreAllSeats board.now (map (λ d. d.seat) (map desk_view result.1.items)) }
@@ -77,7 +80,7 @@ fn wind_up<R: Wait + AllocGlobal>(
     sc.recall_sound();
     let alloc = rt.alloc();
     let left = left_together(&members);
-    let (mut desks, tasks_left) = settle_all(alloc, members, kits, desks);
+    let (mut desks, tasks_left) = settle_all(alloc, members, kits, agendas, desks);
     let Ok(mut tasks) = tasks_left else {
         return (Left::NoMemory, desks, Vec::new(alloc));
     };
@@ -171,7 +174,7 @@ fn conclude<R: Wait>(
 /// The best path with its value, and a bound tree that is accepted, by 1 to 16 workers beside each other.
 ///
 /// The search begins with `first`, a path with its exact value, such as the opening. A worker closes each prefix under the
-/// best standing that it knows by then, and shares what is far from a path with the others. `gate` is told of each step
+/// best standing that it knows by then, in this order, and shares some of what waits with the others. `gate` is told of each step
 /// of a worker. The error is `Full` only where there are more than `nodes` prefixes that `first` doesn't rule out by a
 /// bound above them; it comes with `nodes` records and what waits. Where memory ran out for one worker, it is `NoMemory`.
 /// The search may wait.
@@ -181,6 +184,7 @@ pub fn search<R: Threads + Wait + Sync + AllocGlobal, G: Gate>(
     first: &Standing,
     workers: u32,
     nodes: u64,
+    order: Order,
     gate: &G,
 ) -> Result<Found, SearchStop>
     requires exact { IsExact sc.now first.now }
@@ -198,9 +202,18 @@ pub fn search<R: Threads + Wait + Sync + AllocGlobal, G: Gate>(
         board,
         mut members,
         room,
-    } = muster(rt.alloc(), sc, first, workers, nodes)?;
+    } = muster(rt.alloc(), sc, first, workers, nodes, order)?;
     work_together(rt, sc, &tickets, &board, gate, &mut members);
-    let (end, desks, tasks) = wind_up(rt, sc, &tickets, &board, members, room.kits, room.desks);
+    let (end, desks, tasks) = wind_up(
+        rt,
+        sc,
+        &tickets,
+        &board,
+        members,
+        room.kits,
+        room.agendas,
+        room.desks,
+    );
     let harvest = bring_in(rt.alloc(), first, tasks, desks, room.tickets, room.seats);
     if fell_short(end, &harvest) {
         return give_up(rt, tickets, board, harvest);

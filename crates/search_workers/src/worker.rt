@@ -6,6 +6,7 @@ ghost use Rattle.steal_pool.specs.News.{IsFresh as IsFreshKit};
 ghost use Rattle.node_tickets.specs.Seats.{IsFresh, IsSeatOf as IsTicketOf, MayDraw};
 ghost use Rattle.incumbent_board.specs.Boards.{IsNewSeat, IsSeatOf};
 
+use crate::agenda::{Agenda, Order};
 use crate::desk::Desk;
 use crate::gate::Gate;
 use crate::left::Left;
@@ -21,7 +22,7 @@ use std::marker::Model;
 use std::sync::Wait;
 use steal_pool::Kit;
 
-/// A worker of a search: its kit, with which it shares tasks, and its desk, at which it closes prefixes.
+/// A worker of a search: its kit, with which it shares tasks, its agenda, and its desk, at which it closes prefixes.
 ///
 /// It closes the last prefix of its private stack. Where that is empty it takes a task: in each round the first one of its
 /// own deque, else one that it steals, with one try at each other worker, in ascending order from its own number plus one
@@ -39,10 +40,18 @@ use steal_pool::Kit;
 /// The children of a prefix that branches and is shorter than half the horizon are shared: all but the least go to the own
 /// deque, where the others may steal them. All other children wait on the private stack, the least of them on top.
 ///
-/// Contracts see the kit and the desk, and what the worker brings back by `haul_of`.
+/// Where the greatest number comes first, the children of a prefix that branches go on its agenda, each with the edge bound
+/// of the prefix by way of the child's last position as its number. It takes the prefix with the greatest number from there,
+/// of equals the least, and a task from the pool where there is none. After each tenth record it goes down: of the children
+/// of the prefix that it closed last it takes the one with the greatest number, and so on as long as what it closed
+/// branches. Where it isn't the only worker and goes no further down, after each eighth record it takes a task in one round, and
+/// puts the prefix with the greatest number into the own deque.
+///
+/// Contracts see the kit, the agenda and the desk, and what the worker brings back by `haul_of`.
 #[derive(Drop)]
 pub struct Worker {
     kit: Kit<Path>,
+    agenda: Agenda,
     desk: Desk,
 }
 
@@ -52,8 +61,9 @@ impl Model for Worker {
     ghost Value = { WorkerView };
 
     ghost use Rattle.search_workers.specs.Seen.{desk_view};
+    ghost use Rattle.search_workers.specs.Agendas.{kept};
 
-    ghost view = { λ w. record { kit = w.kit; desk = desk_view w.desk } };
+    ghost view = { λ w. record { kit = w.kit; agenda = kept w.agenda; desk = desk_view w.desk } };
 }
 
 ghost use Rattle.search_workers.specs.Workers.{begun_by};
@@ -70,6 +80,7 @@ fn begin(stack: &mut Stack, place: u32)
 
 impl Worker {
     ghost use Rattle.search_workers.specs.Seen.{desk_view};
+    ghost use Rattle.search_workers.specs.Agendas.{kept};
     ghost use Rattle.search_workers.specs.Workers.{IsReady, Went};
 
     /// A worker that has done nothing yet, in a search from the standing `first`. The one whose kit has place 0 begins with
@@ -81,6 +92,7 @@ impl Worker {
         kit: Kit<Path>,
         seat: BoardSeat,
         ticket: TicketSeat,
+        order: Order,
     ) -> Result<Worker, NoMemory>
         requires exact { IsExact sc.now first.now }
         requires kit { IsFreshKit kit }
@@ -94,7 +106,11 @@ impl Worker {
     {
         let mut desk = Desk::new(alloc, sc, first, seat, ticket)?;
         begin(&mut desk.stack, kit.place());
-        Ok(Worker { kit, desk })
+        Ok(Worker {
+            kit,
+            agenda: Agenda::new(alloc, order),
+            desk,
+        })
     }
 
     /// Closes prefixes until there is nothing to do, the limit is reached, or memory runs out. The gate is told of each
@@ -116,16 +132,26 @@ impl Worker {
         requires ready { IsReady sc.now board.now.first self.old }
         ensures { Went sc.now board.now.first self.old result self.new }
     {
-        scout_first(&self.kit, &mut self.desk, rt, sc, board);
-        run(&mut self.kit, &mut self.desk, rt, sc, tickets, board, gate)
+        scout_first(&self.kit, &self.agenda, &mut self.desk, rt, sc, board);
+        run(
+            &mut self.kit,
+            &mut self.agenda,
+            &mut self.desk,
+            rt,
+            sc,
+            tickets,
+            board,
+            gate,
+        )
     }
 
-    /// Its kit and its desk.
-    pub(crate) fn part(self) -> (Kit<Path>, Desk)
+    /// Its kit, its agenda and its desk.
+    pub(crate) fn part(self) -> (Kit<Path>, Agenda, Desk)
         ensures kit { result.0 ≡ self.kit }
-        ensures desk { desk_view result.1 ≡ self.desk }
+        ensures agenda { kept result.1 ≡ self.agenda }
+        ensures desk { desk_view result.2 ≡ self.desk }
     {
-        let Worker { kit, desk } = self;
-        (kit, desk)
+        let Worker { kit, agenda, desk } = self;
+        (kit, agenda, desk)
     }
 }

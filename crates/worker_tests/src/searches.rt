@@ -6,7 +6,7 @@ use bound_tree::{Kind, TreeNode};
 use opening_path::opening;
 use scenario_text::read_scenario_alone;
 use search_model::{Scenario, Standing};
-use search_workers::{Found, Gate, OpenGate, Partial, SearchStop, search};
+use search_workers::{Found, Gate, OpenGate, Order, Partial, SearchStop, search};
 use std::alloc::{AllocGlobal, Global};
 use std::hint;
 use std::sync::Wait;
@@ -118,7 +118,7 @@ fn found_by<R: Threads + Wait + Sync + AllocGlobal, G: Gate>(
     requires { (1 ≤ workers) × (workers ≤ 16) }
 {
     let first = first_of(rt.alloc(), sc)?;
-    match search(rt, sc, &first, workers, 1_048_576, gate) {
+    match search(rt, sc, &first, workers, 1_048_576, Order::DepthFirst, gate) {
         Ok(found) => Ok(found),
         Err(SearchStop::NoMemory) => Err("out of memory".into()),
         Err(SearchStop::Full(_)) => Err("out of nodes".into()),
@@ -303,7 +303,7 @@ fn is_right_over<R: Threads + Wait + Sync + AllocGlobal>(
     requires { (1 ≤ nodes) × (nodes ≤ MOST_NODES) }
 {
     let first = first_of(rt.alloc(), sc)?;
-    match search(rt, sc, &first, 1, nodes, &OpenGate) {
+    match search(rt, sc, &first, 1, nodes, Order::DepthFirst, &OpenGate) {
         Ok(_) => Ok(None),
         Err(SearchStop::NoMemory) => Err("out of memory".into()),
         Err(SearchStop::Full(part)) => Ok(Some(is_part_of_four(&part))),

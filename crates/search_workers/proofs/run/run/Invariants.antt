@@ -11,8 +11,8 @@ invariant-turns g l = record {
   ticket : IsTicketOf l.tickets l.desk.ticket;
   may : MayDraw l.desk.ticket;
   seat : IsSeatOf l.board l.desk.incumbent.seat;
-  ready : IsReady l.sc l.board.first (worker_view l.kit l.desk);
-  same : IsSameWorker (worker_view l.initial.kit l.initial.desk) (worker_view l.kit l.desk);
+  ready : IsReady l.sc l.board.first (worker_view l.kit l.agenda l.desk);
+  same : IsSameWorker (worker_view l.initial.kit l.initial.agenda l.initial.desk) (worker_view l.kit l.agenda l.desk);
 }
 
 -- how many records it may still make
