@@ -4,10 +4,15 @@ One worker's plan follows from the rules: it closes the last prefix of its priva
 deque, under the best standing that it knows by then. The children of a prefix that branches and is shorter than half the horizon
 go into the deque, all but the least; all others go on the stack, the least of them on top. Where the horizon is 4 or more a
 scout flies first, and a prefix that neither its mean, its tangent nor its edge bound closes under the standing is closed by the best of
-the prefixes that stand in for it; where none does, by the bound that remembers two looks. Where only so many records may be made, the
-prefixes that are left then wait: by their mean bounds, and where the horizon is 4 or more by their edge bounds.
+the prefixes that stand in for it; where none does, by the bound that remembers two looks.
+
+For a gap plan only so many records are made, and the prefixes that are left then wait: by their mean bounds, and where the horizon is 4
+or more by their edge bounds. From there on it goes by another order, too: of the prefixes that wait the worker closes the one with the
+greatest number, which is the edge bound of its parent through it, and of equals the least. But behind every tenth record it goes down:
+to the child with the greatest number, again and again until one doesn't branch.
 """
 import collections
+import heapq
 
 from desk import derived, paths, verdict
 from desk.forms import GAPS, gap_line, plan_line, read_scenario
@@ -18,6 +23,9 @@ SCOUTED_FROM = 4
 TWO_LOOKS_FROM = 4
 # So many tasks a deque takes in its life.
 MOST_PUTS = 4096
+# From so many periods on a gap plan goes by the greatest number; and behind how many records each time it goes down.
+GREATEST_FROM = 4
+DOWN_EVERY = 10
 
 
 # ---- how a search begins: the greedy opening, the reference of a prefix, and the scout
@@ -115,16 +123,26 @@ def closed(sc, prefix, standing):
     return ("D", [two_look]) if two_look is not None and verdict.is_cut(two_look, value, prefix, path) else ("B", [])
 
 
-class Worker:
-    """One worker: its stack, its deque, how often it has put, the standing that it uses, and its records by prefix."""
+class DepthFirst:
+    """The prefixes that wait, as the worker keeps them for a plan: its stack, its deque, and how often it has put."""
 
     def __init__(self, sc):
-        first = opening(sc)
-        self.sc, self.stack, self.deque, self.puts, self.records = sc, [[]], collections.deque(), 0, {}
-        self.standing = scout(sc) if sc.horizon >= SCOUTED_FROM else (paths.value(sc, first), first)
+        self.sc, self.stack, self.deque, self.puts = sc, [[]], collections.deque(), 0
 
-    def dispose(self, prefix):
+    def __len__(self):
+        return len(self.stack) + len(self.deque)
+
+    def waiting(self):
+        return [*self.stack, *self.deque]
+
+    def take(self):
+        """The prefix that is closed next."""
+        return self.stack.pop() if self.stack else self.deque.popleft()
+
+    def put(self, prefix, letter, _count):
         """Shares the children of a prefix that branches, or keeps them."""
+        if letter != "B":
+            return
         least, *others = ([*prefix, it] for it in moves(self.sc, prefix))
         if 2 * len(prefix) < self.sc.horizon:
             taken = min(len(others), MOST_PUTS - self.puts)
@@ -134,17 +152,59 @@ class Worker:
         else:
             self.stack += [*reversed(others), least]
 
+
+class GreatestFirst:
+    """The prefixes that wait, as the worker keeps them for a gap plan: each behind its number, below 0; and of a prefix that was closed just
+    before, and below which it goes down, the children."""
+
+    def __init__(self, sc):
+        self.sc, self.others, self.below, self.is_down = sc, [(0, [])], [], False
+
+    def __len__(self):
+        return len(self.others) + len(self.below)
+
+    def waiting(self):
+        return [prefix for _, prefix in [*self.others, *self.below]]
+
+    def take(self):
+        """The prefix that is closed next."""
+        first = heapq.heappop(self.below or self.others)
+        for it in self.below:
+            heapq.heappush(self.others, it)
+        self.below = []
+        return first[1]
+
+    def put(self, prefix, letter, count):
+        """Keeps the children of a prefix that branches, behind so many records."""
+        self.is_down = letter == "B" and (self.is_down or count % DOWN_EVERY == 0)
+        numbers = verdict.through(self.sc, prefix, verdict.MEMORIES[b"E"]) if letter == "B" else {}
+        for position, number in numbers.items():
+            heapq.heappush(self.below if self.is_down else self.others, (-number, [*prefix, position]))
+
+
+class Worker:
+    """One worker: the prefixes that wait, in their order, the standing that it uses, and its records by prefix."""
+
+    def __init__(self, sc, order=DepthFirst):
+        first = opening(sc)
+        self.sc, self.order, self.records = sc, order(sc), {}
+        self.standing = scout(sc) if sc.horizon >= SCOUTED_FROM else (paths.value(sc, first), first)
+
     def go(self, most=None):
         """Closes prefixes until there are none, or so many are closed."""
-        while (self.stack or self.deque) and len(self.records) != most:
-            prefix = self.stack.pop() if self.stack else self.deque.popleft()
+        while self.order and len(self.records) != most:
+            prefix = self.order.take()
             letter, rest = closed(self.sc, prefix, self.standing)
             self.records[tuple(prefix)] = letter, rest
             if letter == "W" and better((rest[0], prefix), self.standing):
                 self.standing = rest[0], prefix
-            if letter == "B":
-                self.dispose(prefix)
+            self.order.put(prefix, letter, len(self.records))
         return self
+
+
+def gap_worker(sc, most):
+    """The worker that made a gap plan, with so many records at most."""
+    return Worker(sc, GreatestFirst if sc.horizon >= GREATEST_FROM else DepthFirst).go(most)
 
 
 def lines_of(sc, worker, first, more, records):
@@ -168,7 +228,7 @@ def text_of(sc, worker):
 def gap_of(sc, worker):
     """The gap plan as text: what the worker has left waits, with what no path below it exceeds."""
     first = gap_line(sc)
-    waiting = {tuple(it): ("O", [verdict.ceiling(sc, it, GAPS[first].waits_by)]) for it in [*worker.stack, *worker.deque]}
+    waiting = {tuple(it): ("O", [verdict.ceiling(sc, it, GAPS[first].waits_by)]) for it in worker.order.waiting()}
     ceiling = max([worker.standing[0], *(number for _, (number,) in waiting.values())])
     return lines_of(sc, worker, first.decode(), [f"ceiling {ceiling}"], {**worker.records, **waiting})
 
@@ -184,7 +244,7 @@ def plan_text(sc):
 
 def gap_text(sc, most):
     """The gap plan's text as bytes, which `gap --workers 1` writes with so many records at most."""
-    return as_bytes(gap_of(sc, Worker(sc).go(most)))
+    return as_bytes(gap_of(sc, gap_worker(sc, most)))
 
 
 def made_text(sc, command, names):

@@ -53,9 +53,9 @@ def rewards(sc, length, masses):
     return rows
 
 
-def remembering(sc, prefix, memory):
-    """The bound that remembers so many looks: each later look counts as if so many looks just before it, of those behind the prefix, were
-    the only other later looks."""
+def through(sc, prefix, memory):
+    """The bound that remembers so many looks, of the paths that go on from a prefix by each of its moves, by these positions: each later
+    look counts as if so many looks just before it, of those behind the prefix, were the only other later looks."""
     d, g = sc.parts[1:]
     total, belief = after(sc, prefix)
 
@@ -71,14 +71,21 @@ def remembering(sc, prefix, memory):
         return paths.without(sc, [it * g for it in left(t, (None, *others))], t - 1, paths.looked(sc, before, t - 1, last))
 
     @functools.cache
-    def rest(t, position, recent):
-        """The greatest sum from period t on of what each look finds, from a position and behind the looks that are remembered."""
-        if t > sc.horizon:
-            return 0
+    def sums(t, position, recent):
+        """The greatest sums from period t on of what each look finds, by the moves from a position, behind the looks that are remembered."""
         masses, scale = left(t, recent), d ** (sc.horizon - t) * g ** (sc.horizon - len(prefix) - len(recent) - 1)
-        return max(found(sc, masses, t, it) * scale + rest(t + 1, it, (it, *recent)[:memory]) for it in sc.moves[position])
+        return {it: found(sc, masses, t, it) * scale + rest(t + 1, it, (it, *recent)[:memory]) for it in sc.moves[position]}
 
-    return total + rest(len(prefix) + 1, prefix[-1] if prefix else sc.start, ())
+    def rest(t, position, recent):
+        """The greatest of them, or nothing behind the horizon."""
+        return max(sums(t, position, recent).values()) if t <= sc.horizon else 0
+
+    return {it: total + more for it, more in sums(len(prefix) + 1, prefix[-1] if prefix else sc.start, ()).items()}
+
+
+def remembering(sc, prefix, memory):
+    """The bound that remembers so many looks: the greatest of those through each move."""
+    return max(through(sc, prefix, memory).values()) if len(prefix) < sc.horizon else paths.value(sc, prefix)
 
 
 def factors(sc, t, position):

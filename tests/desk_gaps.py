@@ -2,7 +2,9 @@
 plans are two families of one grammar. `python3 -m unittest tests.desk_gaps`, or tests/desk."""
 import dataclasses
 import unittest
+from unittest import mock
 
+from bench import one_worker
 from bench.one_worker import gap_text
 from desk import accepted, brief, following, forms, paths, show, tables, verdict
 from tests.made import ROW
@@ -200,6 +202,16 @@ class Gaps(unittest.TestCase):
             sc = read(example(name)[0])
             self.assertEqual((given.split(b"\n")[0], given), (first, gap_text(sc, 1)))
             self.assertIsNone(verdict.first_reason(sc, forms.read_plan(given, sc, forms.GAPS)))
+
+    def test_the_order_in_which_one_worker_closes(self):
+        """By edge bounds: behind all paths a has 12, b 16 and c 20, behind c has b 14 and c 16, behind c c 14 and 15, and behind c c c as well.
+        With every second record in the place of every tenth it goes from c on down to c c c c, before b."""
+        sc = read(LONGER.replace(b"horizon 3", b"horizon 4"))
+        self.assertEqual(verdict.through(sc, [], 1), {0: 12, 1: 16, 2: 20})
+        rest = [(2, 1), (2, 2, 1), (2, 2, 2, 1), (0,)]
+        for every, first in ((10, [(), (2,), (1,), (2, 2), (2, 2, 2), (2, 2, 2, 2)]), (2, [(), (2,), (2, 2), (2, 2, 2), (2, 2, 2, 2), (1,)])):
+            with mock.patch.object(one_worker, "DOWN_EVERY", every):
+                self.assertEqual(list(one_worker.gap_worker(sc, 99).records), [*first, *rest])
 
     def test_two_families(self):
         sc = read(LONGER)
