@@ -116,13 +116,7 @@ fn told(kind: &Kind) -> (char, u128, Path) {
     }
 }
 
-fn is_record(
-    node: &TreeNode,
-    letter: char,
-    prefix: &[u8],
-    number: u128,
-    reference: &[u8],
-) -> bool {
+fn is_record(node: &TreeNode, letter: char, prefix: &[u8], number: u128, reference: &[u8]) -> bool {
     let (is, n, places) = told(&node.kind);
     node.prefix.cells() == prefix && is == letter && n == number && places.cells() == reference
 }
