@@ -113,12 +113,13 @@ fn found_by<R: Threads + Wait + Sync + AllocGlobal, G: Gate>(
     rt: &R,
     sc: &Scenario,
     workers: u32,
+    order: Order,
     gate: &G,
 ) -> Result<Found, Fail>
     requires { (1 ≤ workers) × (workers ≤ 16) }
 {
     let first = first_of(rt.alloc(), sc)?;
-    match search(rt, sc, &first, workers, 1_048_576, Order::DepthFirst, gate) {
+    match search(rt, sc, &first, workers, 1_048_576, order, gate) {
         Ok(found) => Ok(found),
         Err(SearchStop::NoMemory) => Err("out of memory".into()),
         Err(SearchStop::Full(_)) => Err("out of nodes".into()),
@@ -130,12 +131,13 @@ fn found_in<R: Threads + Wait + Sync + AllocGlobal, G: Gate>(
     rt: &R,
     text: &str,
     workers: u32,
+    order: Order,
     gate: &G,
 ) -> Result<Found, Fail>
     requires { (1 ≤ workers) × (workers ≤ 16) }
 {
     let sc = scenario_of(rt.alloc(), text)?;
-    found_by(rt, &sc, workers, gate)
+    found_by(rt, &sc, workers, order, gate)
 }
 
 // Whether some workers find the least of equal paths over two cells.
@@ -146,7 +148,7 @@ fn finds_the_least<R: Threads + Wait + Sync + AllocGlobal, G: Gate>(
 ) -> Result<bool, Fail>
     requires { (1 ≤ workers) × (workers ≤ 16) }
 {
-    let found = found_in(rt, TWO_CELLS, workers, gate)?;
+    let found = found_in(rt, TWO_CELLS, workers, Order::DepthFirst, gate)?;
     Ok(is_standing(&found.best, 12, &[0, 0]) && is_tree(found.tree.nodes(), &EVEN))
 }
 
@@ -169,7 +171,7 @@ fn finds_the_better<R: Threads + Wait + Sync + AllocGlobal, G: Gate>(
 ) -> Result<bool, Fail>
     requires { (1 ≤ workers) × (workers ≤ 16) }
 {
-    let found = found_in(rt, FOUR_CELLS, workers, gate)?;
+    let found = found_in(rt, FOUR_CELLS, workers, Order::DepthFirst, gate)?;
     Ok(is_the_better(&found, trees))
 }
 
@@ -203,7 +205,7 @@ fn goes_by(found: &Found, position: u8) -> bool {
 
 #[test]
 fn a_prefix_is_closed_by_another_that_stands_in_for_it(rt: HostRuntime) -> Result<(), Fail> {
-    let found = found_in(&rt, BY_THE_WAY, 1, &OpenGate)?;
+    let found = found_in(&rt, BY_THE_WAY, 1, Order::DepthFirst, &OpenGate)?;
     assert!(rt; is_standing(&found.best, 13, &[1, 0, 0, 2]));
     assert!(rt; is_tree(found.tree.nodes(), &BY_AN_EXCHANGE));
     assert!(rt; goes_by(&found, 1));
@@ -324,5 +326,58 @@ fn is_right_part<R: Threads + Wait + Sync + AllocGlobal>(
 fn four_nodes_are_too_few_and_five_suffice(rt: HostRuntime) -> Result<(), Fail> {
     assert_eq!(rt; is_right_part(&rt, 4)?, Some(true));
     assert_eq!(rt; is_right_part(&rt, 5)?, None);
+    Ok(())
+}
+
+// Whether some workers who go by the greatest number find the better path over four cells, with one of these trees.
+fn finds_by_numbers<R: Threads + Wait + Sync + AllocGlobal>(
+    rt: &R,
+    workers: u32,
+    trees: &[&[Row]],
+) -> Result<bool, Fail>
+    requires { (1 ≤ workers) × (workers ≤ 16) }
+{
+    let found = found_in(rt, FOUR_CELLS, workers, Order::GreatestFirst, &OpenGate)?;
+    Ok(is_the_better(&found, trees))
+}
+
+// The third cell has the greatest number, and so has the best path behind it: by the greatest number one worker rules the
+// first cell out by that.
+#[test]
+fn the_greatest_number_leads_to_the_best_path(rt: HostRuntime) -> Result<(), Fail> {
+    assert!(rt; finds_by_numbers(&rt, 1, &[&UNDER_THE_BEST])?);
+    for workers in [2, 4, 16] {
+        assert!(rt; finds_by_numbers(&rt, workers, &[&UNDER_THE_OPENING, &UNDER_THE_BEST])?);
+    }
+    Ok(())
+}
+
+// The first three prefixes over four cells by the greatest number, in the order in which one worker closes them.
+const BY_NUMBERS: [Row; 3] = [(b'B', 0, &[]), (b'B', 0, &[2]), (b'W', 6, &[2, 3])];
+
+// Whether three nodes closed these, and the first cell and the other path wait.
+fn is_part_by_numbers(part: &Partial) -> bool {
+    is_tree(&part.closed, &BY_NUMBERS)
+        && part.waiting.len() == 2
+        && is_standing(&part.best, 6, &[2, 3])
+}
+
+// Whether what one worker has of a scenario by the greatest number is right where three nodes have run out.
+fn is_right_by_numbers<R: Threads + Wait + Sync + AllocGlobal>(
+    rt: &R,
+    sc: &Scenario,
+) -> Result<bool, Fail> {
+    let first = first_of(rt.alloc(), sc)?;
+    match search(rt, sc, &first, 1, 3, Order::GreatestFirst, &OpenGate) {
+        Ok(_) => Ok(false),
+        Err(SearchStop::NoMemory) => Err("out of memory".into()),
+        Err(SearchStop::Full(part)) => Ok(is_part_by_numbers(&part)),
+    }
+}
+
+#[test]
+fn the_greatest_number_is_closed_first(rt: HostRuntime) -> Result<(), Fail> {
+    let sc = scenario_of(rt.alloc(), FOUR_CELLS)?;
+    assert!(rt; is_right_by_numbers(&rt, &sc)?);
     Ok(())
 }
