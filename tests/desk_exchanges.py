@@ -209,13 +209,12 @@ class Exchanges(unittest.TestCase):
             self.assertIsNone(self.reason(text, given, family))
 
     def test_where_a_two_look_bound_is_accepted(self):
-        """Also where it is no less than another bound, and at every horizon; unlike an exchange it asks the plan's path."""
-        gap, three = TWO_LOOKED.replace("plan 3", "gap 2").replace("15 16", "15 16\nceiling 15"), example("waiting-longer")[1].decode()
+        """Also where it is no less than another bound; unlike an exchange it asks the plan's path."""
+        gap = TWO_LOOKED.replace("plan 3", "gap 2").replace("15 16", "15 16\nceiling 15")
         for text, given, family in (
             (FOUR, TWO_LOOKED, forms.PLANS),
             (FOUR, gap, forms.GAPS),
             (FOUR, PLAN.replace("E", "D").replace("\nM 14", "\nD 14"), forms.PLANS),
-            (LONGER, three.replace("plan 2", "plan 3").replace("T 12 1 2 2", "D 6"), forms.PLANS),
         ):
             self.assertIsNone(self.reason(text, given, family))
         self.assertEqual(self.reason(FOUR, UNDER_NOTHING.replace("X 10 2", "D 12"), forms.GAPS), (13, "NotCut"))
@@ -227,10 +226,14 @@ class Exchanges(unittest.TestCase):
                 self.assertEqual(self.reason(FOUR, text.replace(old, new)), (line, why))
 
     def test_none_below_four_periods(self):
-        """The path is the best, and by its exchange bound b c would be ruled out."""
+        """The path is the best, and by its exchange bound b c would be ruled out, or b by its two-look bound."""
         given = "plan 3\npath c c c\nchance 7 8\nnodes 7\nB\nM 4\nB\nM 0\nM 4\nX 5 2\nT 14 2 2 2\nend\n"
         self.assertEqual(verdict.exchange(read(LONGER), [1, 2], [2, 2]), 5)
         self.assertEqual(self.reason(LONGER, given), (10, "WholeWrong"))
+        three = example("waiting-longer")[1].decode()
+        given = three.replace("plan 2", "plan 3").replace("T 12 1 2 2", "D 6")
+        self.assertEqual(verdict.remembering(read(LONGER), [1], 2), 6)
+        self.assertEqual(self.reason(LONGER, given), (7, "WholeWrong"))
 
     def test_each_fault(self):
         for text, old, new, line, kind in [(PLAN, *it) for it in FAULTS] + [(TWO_LOOKED, *it) for it in TWO_LOOK_FAULTS]:
