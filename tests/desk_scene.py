@@ -153,7 +153,7 @@ class Scenes(Carrying):
         """A page of a gap plan says by `checkgap` that it is accepted, or why not; where the records run out, a ceiling is made behind what was
         flown, and what is saved is the scenario of a second computation with what `gap` writes for it."""
         grid, text = f"{pages.EXAMPLES}/drifting-grid.scenario", pages.example("drifting-grid")[0]
-        gap = web.native([Case(["gap", "--workers", "1", "--nodes", "40"], text)])[0].out
+        gap = web.native([Case(["gap", "--workers", "1", "--nodes", "8"], text)])[0].out
         plan = self.write("grid.gap", gap)
         made = {"gap": Page([grid, plan], grid, [*walks(grid, 4, (3,)), *walks(grid, 5, (2, 1), most=5)])}
         seen = self.check_all(made)["gap"]
