@@ -18,9 +18,8 @@ from desk import derived, paths, verdict
 from desk.forms import GAPS, gap_line, plan_line, read_scenario
 from desk.writing import scenario_text
 
-# From so many periods on a scout flies, and the two-look bound is asked for.
+# From so many periods on a scout flies.
 SCOUTED_FROM = 4
-TWO_LOOKS_FROM = 4
 # So many tasks a deque takes in its life.
 MOST_PUTS = 4096
 # From so many periods on a gap plan goes by the greatest number; and behind how many records each time it goes down.
@@ -119,7 +118,7 @@ def closed(sc, prefix, standing):
     position = stand_in(sc, prefix) if verdict.has_exchanges(sc, prefix) else None
     if position is not None:
         return "X", [verdict.exchange(sc, prefix, verdict.exchanged(prefix, position)), position]
-    two_look = verdict.remembering(sc, prefix, 2) if sc.horizon >= TWO_LOOKS_FROM else None
+    two_look = verdict.remembering(sc, prefix, 2) if sc.horizon >= verdict.TWO_LOOKS_FROM else None
     return ("D", [two_look]) if two_look is not None and verdict.is_cut(two_look, value, prefix, path) else ("B", [])
 
 
