@@ -1,6 +1,6 @@
 //! The rows of the drift.
 
-ghost use Rattle.std.specs.Prelude.{◌≡◌, ◌<◌, ◌≤◌, ◌↔◌, length, map, IsOk, IfOk, IfErr};
+ghost use Rattle.std.specs.Prelude.{◌≡◌, ◌<◌, ◌≤◌, ◌↔◌, length, map, false, IsOk, IfOk, IfErr};
 ghost use Rattle.std.specs.List.{AllZip};
 ghost use Rattle.std.specs.List.Sorted.{IsPermutation};
 ghost use Rattle.period_rows.specs.Rows.{IsAscending};
@@ -173,6 +173,13 @@ impl Drift {
         ensures sound { IsDrift self.now }
     {
         self.rows.len() as u8
+    }
+
+    /// Whether steps may differ from period to period.
+    pub fn may_change(&self) -> bool
+        ensures { result ≡ false → self.now.changes ≡ [] }
+    {
+        self.changes.is_some()
     }
 
     /// The row of cell `c` for the step after period `t`, in ascending order of cells.

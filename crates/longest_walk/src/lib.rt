@@ -9,4 +9,5 @@ mod walk;
 
 pub use laws::{highest_above, highest_below, same_rewards_same_sum, worked_walks};
 pub use near::Near;
+pub use rows::least_move;
 pub use walk::Walk;

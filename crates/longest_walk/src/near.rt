@@ -131,8 +131,14 @@ fn add_levels(
     Ok(())
 }
 
-// The row of a position alone.
-fn first_row(alloc: Global, marks: &mut [bool], grid: &Grid, a: u8) -> Result<NearRow, NoMemory>
+// The row of a position alone, with room for those within so many moves.
+fn first_row(
+    alloc: Global,
+    marks: &mut [bool],
+    grid: &Grid,
+    a: u8,
+    most: u32,
+) -> Result<NearRow, NoMemory>
     requires position { a < length grid.now }
     requires marks { length marks.old ≡ length grid.now }
     requires marked { AreMarks [] marks.old }
@@ -140,10 +146,9 @@ fn first_row(alloc: Global, marks: &mut [bool], grid: &Grid, a: u8) -> Result<Ne
     ensures marked { IfOk result (λ row. AreMarks row.order marks.new) }
     ensures size { length marks.new ≡ length marks.old }
 {
-    let _among = grid;
-    let mut order = Vec::new(alloc);
+    let mut order = Vec::with_capacity(alloc, usize::from(grid.cells()))?;
     add_move(&mut order, marks, a)?;
-    let mut counts = Vec::new(alloc);
+    let mut counts = Vec::with_capacity(alloc, most as usize + 1)?;
     counts.push(order.len())?;
     Ok(NearRow { order, counts })
 }
@@ -154,7 +159,7 @@ fn near_row(alloc: Global, grid: &Grid, a: u8, most: u32) -> Result<NearRow, NoM
     ensures { IfOk result (IsNearRow grid.now most a) }
 {
     let mut marks = vec![in alloc; false; usize::from(grid.cells())]?;
-    let mut row = first_row(alloc, &mut marks, grid, a)?;
+    let mut row = first_row(alloc, &mut marks, grid, a, most)?;
     add_levels(&mut row, &mut marks, grid, a, most)?;
     Ok(row)
 }

@@ -28,7 +28,7 @@ pub(crate) fn greatest_at(sums: &[u128], row: usize, moves: &[u8]) -> u128
 }
 
 /// The first of some positions that have the greatest sum among them, in the row that starts at `row`.
-pub(crate) fn least_move(sums: &[u128], row: usize, moves: &[u8]) -> u8
+pub fn least_move(sums: &[u128], row: usize, moves: &[u8]) -> u8
     requires some { 1 ≤ length moves.now }
     requires within { All (λ d. row + d < length sums.now) moves.now }
     requires ascending { IsStrictlyIncreasing moves.now }

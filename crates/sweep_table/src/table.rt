@@ -259,7 +259,7 @@ impl Sweep {
     }
 
     /// Whether looks may differ from period to period.
-    pub(crate) fn may_change(&self) -> bool
+    pub fn may_change(&self) -> bool
         ensures { result ≡ false → self.now.changes ≡ [] }
     {
         match &self.looks {
