@@ -14,7 +14,6 @@ pub mod Remembered
 pub mod Exchange
 pub mod Rooms
 pub mod Placing
-pub mod SameMemory
 pub mod SameStandIns
 pub mod SamePlans
 pub mod SameLive

@@ -12,7 +12,7 @@ use Rattle.search_model.specs.Memory.{sum_remembering}
 use Rattle.list_laws.proofs.Members.{Contains-map, Contains-map_cases}
 use Rattle.search_model.proofs.Greatest.{greatest_above, greatest_below, greatest_reached}
 use Rattle.search_model.proofs.LegalLemmas.{last_within}
-use Rattle.search_model.proofs.Remembering.{value-all, value-within, sum_remembering-le, remembering-none, remembering-one}
+use Rattle.search_model.proofs.Remembering.{value-all, value-within, sum_remembering-le, remembering_of-none, remembering_of-one}
 use Rattle.search_model.proofs.WalkLemmas.{listed_walk, some_walks, continuations_are}
 use Rattle.bound_tree.specs.EdgeLaws.{EdgeIsAbove, EdgeIsWithinMean}
 use Rattle.bound_tree.specs.MemoryLaws.{RememberingIsAbove, MoreIsLess, RememberingNone, RememberingOne, RememberingAll}
@@ -43,23 +43,10 @@ more_is_less p m n q sound legal less =
     omega (arith, each)
 
 pub remembering_none : RememberingNone
-remembering_none p q =
-    let ys = continuations p q in
-    let f = sum_remembering p 0 q [] (length q + 1) in
-    let g = sum_along (reward_of p q) (length q + 1) in
-    let same : (y : List ℕ) → f y ≡ g y = remembering-none p q [] (length q + 1) in
-    let below = greatest_within f g ys (λ y _. omega (arith, same y)) in
-    let above = greatest_within g f ys (λ y _. omega (arith, same y)) in
-    omega (arith, below, above)
+remembering_none = remembering_of-none
 
 pub remembering_one : RememberingOne
-remembering_one p q =
-    let ys = continuations p q in
-    let f = sum_remembering p 1 q [] (length q + 1) in
-    let same : (y : List ℕ) → f y ≡ edge_sum p q y = remembering-one p q in
-    let below = greatest_within f (edge_sum p q) ys (λ y _. omega (arith, same y)) in
-    let above = greatest_within (edge_sum p q) f ys (λ y _. omega (arith, same y)) in
-    omega (arith, below, above)
+remembering_one = remembering_of-one
 
 pub remembering_all : RememberingAll
 remembering_all p m q sound legal far =

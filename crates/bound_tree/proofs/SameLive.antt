@@ -7,8 +7,9 @@ use Rattle.search_model.specs.Same.{AreSame}
 use Rattle.search_model.specs.Legal.{IsLegal}
 use Rattle.search_model.specs.Edge.{edge_of}
 use Rattle.search_model.proofs.WalkLemmas.{front_is_legal}
-use Rattle.search_model.proofs.SameSearch.{AreSame-sym, legal_same, rate_same, value_same_legal, mean_same, edge_same, tangent_same, reference_same}
+use Rattle.search_model.proofs.SameSearch.{AreSame-sym, legal_same, rate_same, value_same_legal, tangent_same, reference_same}
 use Rattle.search_model.proofs.SameExchanges.{exchange_same}
+use Rattle.search_model.proofs.SameMemory.{mean_same, edge_same, remembering_same}
 use Rattle.bound_tree.specs.declared.node.Kind.{Kind}
 use Rattle.bound_tree.specs.declared.node.Kind.TheVariants.{Branch, Whole, Mean, Tangent, Edge, Exchange, TwoLooks}
 use Rattle.bound_tree.specs.Cut.{is_cut, times}
@@ -16,8 +17,7 @@ use Rattle.bound_tree.specs.Exchanges.{exchanged}
 use Rattle.bound_tree.specs.Close.{IsTangent, IsLeftOpen, IsLeftOver, IsPastTwoLooks, IsClosed, IsLive}
 use Rattle.bound_tree.specs.SameLaws.{SameCloses, SameLive, SameHasMoreLive}
 use Rattle.bound_tree.proofs.Tangents.{reference_extends}
-use Rattle.bound_tree.proofs.SameMemory.{two_asked_same, remembering_same}
-use Rattle.bound_tree.proofs.SameStandIns.{asked_same, best_stand_in_same, no_stand_in_same}
+use Rattle.bound_tree.proofs.SameStandIns.{asked_same, two_asked_same, best_stand_in_same, no_stand_in_same}
 
 module _ (p o : Problem) (same : AreSame p o) (sound : IsProblem p) (q : List ℕ) (legal : IsLegal p q) where
   -- a prefix has the same tangent bound, at the same reference

@@ -12,12 +12,12 @@ use Rattle.bound_tree.specs.Exchanges.{exchanged}
 use Rattle.bound_tree.specs.Accepts.{IsGoodKind, expected_by, AreEaten}
 use Rattle.bound_tree.proofs.Rooms.{legal_expected}
 use Rattle.bound_tree.proofs.StandIns.{exchanged-long}
-use Rattle.bound_tree.proofs.SameStandIns.{asked_same}
+use Rattle.bound_tree.proofs.SameStandIns.{asked_same, two_asked_same}
 use Rattle.bound_tree.specs.Places.{opened_by, AreInPlace}
 use Rattle.bound_tree.specs.SameLaws.{SameIsAlike, SameAccepts}
-use Rattle.search_model.proofs.SameSearch.{AreSame-sym, legal_same, best_same, path_same, whole_same, rate_same, value_same_legal, mean_same, edge_same, reference_same, tangent_same, opening_same, path_legal}
+use Rattle.search_model.proofs.SameSearch.{AreSame-sym, legal_same, best_same, path_same, whole_same, rate_same, value_same_legal, reference_same, tangent_same, opening_same, path_legal}
 use Rattle.search_model.proofs.SameExchanges.{exchange_same}
-use Rattle.bound_tree.proofs.SameMemory.{two_asked_same, remembering_same}
+use Rattle.search_model.proofs.SameMemory.{mean_same, edge_same, remembering_same}
 
 module _ (p o : Problem) (same : AreSame p o) where
   -- a record makes the same prefixes expected

@@ -1,16 +1,21 @@
--- Problems that are the same search ask for the same exchanges, and the same prefixes stand in.
+-- Problems that are the same search ask for the same exchanges and bounds of two looks, and the same prefixes stand in.
 use Rattle.std.proofs.Common.{ℕ, ◌<◌, List, length}
 use Rattle.search_model.specs.Problem.{Problem, IsProblem}
 use Rattle.search_model.specs.Same.{AreSame}
 use Rattle.search_model.specs.Legal.{IsLegal}
 use Rattle.search_model.proofs.SameSearch.{AreSame-sym, legal_same, value_same_legal}
 use Rattle.search_model.proofs.SameExchanges.{exchange_same}
+use Rattle.bound_tree.specs.Asked.{HasTwoLooks}
 use Rattle.bound_tree.specs.Exchanges.{StandsIn, HasExchanges, IsBestStandIn, HasNoStandIn, exchanged}
 
 module _ (p o : Problem) (same : AreSame p o) where
   -- the same prefixes are asked for one that stands in
   pub asked_same : (q : List ℕ) → HasExchanges p q → HasExchanges o q
   asked_same q asked = record { periods = rw (← same.horizon) asked.periods; long = asked.long; short = rw (← same.horizon) asked.short }
+
+  -- and for the bound of two looks
+  pub two_asked_same : (q : List ℕ) → HasTwoLooks p q → HasTwoLooks o q
+  two_asked_same q asked = record { periods = rw (← same.horizon) asked.periods; short = rw (← same.horizon) asked.short }
 
   module _ (sound : IsProblem p) (q : List ℕ) (legal : IsLegal p q) (short : length q < p.horizon) where
     -- the same ones stand in for a prefix

@@ -8,7 +8,8 @@ use Rattle.search_model.specs.Legal.{IsLegal}
 use Rattle.search_model.specs.Same.{AreSame}
 use Rattle.search_model.specs.Tracks.{value_of, whole_weight}
 use Rattle.search_model.specs.Edge.{edge_of}
-use Rattle.search_model.proofs.SameSearch.{path_same, path_legal, value_same_legal, mean_same, edge_same, whole_same}
+use Rattle.search_model.proofs.SameSearch.{path_same, path_legal, value_same_legal, whole_same}
+use Rattle.search_model.proofs.SameMemory.{mean_same, edge_same}
 use Rattle.bound_tree.specs.declared.node.TreeNode.{TreeNode}
 use Rattle.bound_tree.specs.declared.gap.Numbers.{Numbers}
 use Rattle.bound_tree.specs.declared.gap.Numbers.TheVariants.{Means, Edges}

@@ -2,8 +2,9 @@
 use Rattle.std.proofs.Common.{ℕ, ◌+◌, ◌≤◌, ◌<◌, ◌≡◌, max, List, [], ◌∷◌, ◌++◌, map, length, inl, inr, sym, refl, ap, ◌∙◌, subst, arith, All, Contains, flat_map}
 use Rattle.std.proofs.Math.Nat.{le-max_left, le-max_right, max-eq_left, max-eq_right, max-zero, max-le}
 use Rattle.std.proofs.lemmas.Bool.{cases_lt}
-use Rattle.std.proofs.lemmas.List.Elements.{All-head, All-tail}
+use Rattle.std.proofs.lemmas.List.Elements.{All-head, All-tail, All-weaker, All-contains_itself}
 use Rattle.search_model.specs.Bounds.{greatest}
+use Rattle.list_laws.proofs.Agreeing.{map_agree}
 use Rattle.list_laws.proofs.Members.{Contains-nil, Contains-head, Contains-tail, Contains-cons_cases}
 
 -- one number more
@@ -66,3 +67,7 @@ pub greatest-flat_map : {A : Type 0} (f : A → List ℕ) (xs : List A) → grea
 unfolding greatest
 greatest-flat_map f [] = refl
 greatest-flat_map f (x ∷ xs) = greatest-append (f x) (flat_map f xs) ∙ ap (λ v. max (greatest (f x)) v) (greatest-flat_map f xs)
+
+-- the greatest of what functions make is the same where they agree on each of a list
+pub greatest-same : {A : Type 0} (f g : A → ℕ) (xs : List A) → ((x : A) → Contains xs x → f x ≡ g x) → greatest (map f xs) ≡ greatest (map g xs)
+greatest-same f g xs each = ap greatest (map_agree f g xs (All-weaker (Contains xs) (λ x. f x ≡ g x) each xs (All-contains_itself xs)))

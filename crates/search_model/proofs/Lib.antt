@@ -20,6 +20,7 @@ pub mod Rates
 pub mod SameParts
 pub mod SameSearch
 pub mod SameExchanges
+pub mod SameMemory
 pub mod Totals
 pub mod TrackMembers
 pub mod TrackSums

@@ -7,11 +7,13 @@ use Rattle.std.proofs.lemmas.List.{append-nil, take_all}
 use Rattle.sweep_table.specs.LookParts.{factor_of}
 use Rattle.sweep_table.proofs.Factors.{factor_of-le}
 use Rattle.search_model.specs.Problem.{Problem, IsProblem}
+use Rattle.search_model.specs.Legal.{continuations}
 use Rattle.search_model.specs.Tracks.{tracks, weight_of, miss_of, missed_weight, value_of}
-use Rattle.search_model.specs.Bounds.{factors_along, cell_in, reward_of, sum_along}
-use Rattle.search_model.specs.Edge.{edge_reward_of, sum_moves, edge_sum}
-use Rattle.search_model.specs.Memory.{factors_before, reward_after, sum_remembering}
+use Rattle.search_model.specs.Bounds.{factors_along, cell_in, reward_of, sum_along, mean_of}
+use Rattle.search_model.specs.Edge.{edge_reward_of, sum_moves, edge_sum, edge_of}
+use Rattle.search_model.specs.Memory.{factors_before, reward_after, sum_remembering, remembering_of}
 use Rattle.list_laws.proofs.Sums.{sum_by-same, sum_by-plus, sum_by-within}
+use Rattle.search_model.proofs.Greatest.{greatest-same}
 use Rattle.search_model.proofs.Misses.{miss_of-front}
 use Rattle.search_model.proofs.Totals.{nothing_is_cut_off}
 use Rattle.search_model.proofs.TrackSums.{sum_tracks-same}
@@ -78,14 +80,14 @@ sum_remembering-le p sound m n less q recent t (b ∷ y) short =
     omega (arith, here, later)
 
 -- after no look behind the prefix a look has the reward of the mean bound
-reward_after-none : (p : Problem) (q : List ℕ) (t b : ℕ) → reward_after p q [] t b ≡ reward_of p q t b
+pub reward_after-none : (p : Problem) (q : List ℕ) (t b : ℕ) → reward_after p q [] t b ≡ reward_of p q t b
 unfolding reward_after reward_of factors_before
 reward_after-none p q t b =
     let rest : p.horizon - length q - 0 - 1 ≡ p.horizon - length q - 1 = omega arith in
     sum_by-same _ _ (tracks p.cells p.horizon) (λ x. rw rest (omega arith))
 
 -- and after one that of the edge bound
-reward_after-one : (p : Problem) (q : List ℕ) (t a b : ℕ) → reward_after p q (a ∷ []) t b ≡ edge_reward_of p q t a b
+pub reward_after-one : (p : Problem) (q : List ℕ) (t a b : ℕ) → reward_after p q (a ∷ []) t b ≡ edge_reward_of p q t a b
 unfolding reward_after edge_reward_of factors_before
 reward_after-one p q t a b =
     let rest : p.horizon - length q - 1 - 1 ≡ p.horizon - length q - 2 = omega arith in
@@ -97,7 +99,7 @@ edge_reward-le p sound q t a b some =
     omega (arith, reward_after-le p sound 0 1 (omega arith) q (a ∷ []) t b (omega (arith, some)), reward_after-none p q t b, reward_after-one p q t a b)
 
 -- without memory the rewards along a continuation are those of the mean bound
-pub remembering-none : (p : Problem) (q recent : List ℕ) (t : ℕ) (y : List ℕ) → sum_remembering p 0 q recent t y ≡ sum_along (reward_of p q) t y
+remembering-none : (p : Problem) (q recent : List ℕ) (t : ℕ) (y : List ℕ) → sum_remembering p 0 q recent t y ≡ sum_along (reward_of p q) t y
 unfolding sum_remembering sum_along
 remembering-none p q recent t [] = refl
 remembering-none p q recent t (b ∷ y) = rw (reward_after-none p q t b, remembering-none p q (b ∷ recent) (t + 1) y) refl
@@ -108,12 +110,21 @@ unfolding sum_remembering sum_moves
 remembering-moves p q a recent t [] = refl
 remembering-moves p q a recent t (b ∷ y) = rw (reward_after-one p q t a b, remembering-moves p q b (a ∷ recent) (t + 1) y) refl
 
-pub remembering-one : (p : Problem) (q y : List ℕ) → sum_remembering p 1 q [] (length q + 1) y ≡ edge_sum p q y
+remembering-one : (p : Problem) (q y : List ℕ) → sum_remembering p 1 q [] (length q + 1) y ≡ edge_sum p q y
 unfolding sum_remembering
 remembering-one p q [] = refl
 remembering-one p q (b ∷ y) =
     let next : length q + 1 + 1 ≡ length q + 2 = omega arith in
     rw (reward_after-none p q (length q + 1) b, remembering-moves p q b [] (length q + 1 + 1) y, next) refl
+
+-- so the bound that remembers no look is the mean bound, and the one that remembers one the edge bound
+pub remembering_of-none : (p : Problem) (q : List ℕ) → remembering_of p 0 q ≡ mean_of p q
+remembering_of-none p q =
+    ap (λ (n : ℕ). value_of p q + n) (greatest-same (sum_remembering p 0 q [] (length q + 1)) (sum_along (reward_of p q) (length q + 1)) (continuations p q) (λ y _. remembering-none p q [] (length q + 1) y))
+
+pub remembering_of-one : (p : Problem) (q : List ℕ) → remembering_of p 1 q ≡ edge_of p q
+remembering_of-one p q =
+    ap (λ (n : ℕ). value_of p q + n) (greatest-same (sum_remembering p 1 q [] (length q + 1)) (edge_sum p q) (continuations p q) (λ y _. remembering-one p q y))
 
 -- the factors of a prefix with one look more
 factors_along-more : (p : Problem) (t : ℕ) (r x : List ℕ) (a : ℕ) → length r < length x →

@@ -1,7 +1,7 @@
 -- Problems that are the same search have the same prefixes, weights, values and bounds.
 use Rattle.std.proofs.Common.{ℕ, ◌+◌, ◌*◌, ◌-◌, ◌<◌, ◌≤◌, ◌≡◌, ◌↔◌, ◌∙◌, Bool, if◌then◌else◌, List, [], ◌∷◌, ◌++◌, map, length, nat_lt, take, drop, refl, sym, ap, subst, arith, sum_by, All, Contains}
 use Rattle.std.proofs.Math.Nat.{le-max_right}
-use Rattle.std.proofs.lemmas.List.Elements.{All-head, All-tail, All-weaker, All-contains_itself, All-drop}
+use Rattle.std.proofs.lemmas.List.Elements.{All-head, All-tail, All-drop}
 use Rattle.std.proofs.lemmas.List.{length-drop, length-take-le}
 use Rattle.drift_chain.specs.DriftRows.{row_of}
 use Rattle.sweep_table.specs.LookParts.{factor_of}
@@ -12,13 +12,12 @@ use Rattle.search_model.specs.Opening.{TakesLeastBest, IsOpening}
 use Rattle.search_model.specs.Reference.{greatest_sum, IsLeastBest, IsReference}
 use Rattle.search_model.specs.Tracks.{tracks, steps_product, weight_of, miss_from, miss_of, whole_weight, missed_weight, value_of}
 use Rattle.search_model.specs.Order.{IsBest}
-use Rattle.search_model.specs.Bounds.{factors_along, cell_in, reward_of, sum_along, greatest, mean_of, IsRate, gain_of, tangent_of}
-use Rattle.search_model.specs.Edge.{edge_reward_of, sum_moves, edge_sum, edge_of}
+use Rattle.search_model.specs.Bounds.{factors_along, cell_in, reward_of, sum_along, greatest, IsRate, gain_of, tangent_of}
+use Rattle.search_model.proofs.Greatest.{greatest-same}
 use Rattle.search_model.proofs.LegalLemmas.{last_within}
 use Rattle.search_model.proofs.Children.{child_is_legal}
 use Rattle.search_model.proofs.PlainSteps.{positions_follow}
 use Rattle.search_model.proofs.WalkLemmas.{listed_walk, front_is_legal}
-use Rattle.list_laws.proofs.Agreeing.{map_agree}
 use Rattle.list_laws.proofs.Sums.{sum_by-filter}
 use Rattle.search_model.proofs.TrackMembers.{IsTrack, sum_tracks-same}
 
@@ -54,25 +53,11 @@ sum_along-same positions last r w t (a ∷ y) each short within =
     let rest = sum_along-same positions last r w (t + 1) y (λ u b from to place. each u b (omega (arith, from)) to place) (omega (arith, short)) (All-tail (λ a. a < positions) a y within) in
     rw (here, rest) refl
 
-sum_moves-same : (positions last : ℕ) (r w : ℕ → ℕ → ℕ → ℕ) (t a : ℕ) (y : List ℕ) → ((u b c : ℕ) → t ≤ u → u ≤ last → b < positions → c < positions → r u b c ≡ w u b c) →
-    t + length y ≤ last + 1 → a < positions → All (λ a. a < positions) y → sum_moves r t a y ≡ sum_moves w t a y
-unfolding sum_moves
-sum_moves-same positions last r w t a [] each short at within = refl
-sum_moves-same positions last r w t a (b ∷ y) each short at within =
-    let next = All-head (λ a. a < positions) b y within in
-    let here = each t a b (omega arith) (omega (arith, short)) at next in
-    let rest = sum_moves-same positions last r w (t + 1) b y (λ u c d from to place. each u c d (omega (arith, from)) to place) (omega (arith, short)) next (All-tail (λ a. a < positions) b y within) in
-    rw (here, rest) refl
-
--- the greatest of numbers that are the same for each walk
-greatest_over-same : (f g : List ℕ → ℕ) (all : List (List ℕ)) → ((y : List ℕ) → Contains all y → f y ≡ g y) → greatest (map f all) ≡ greatest (map g all)
-greatest_over-same f g all each = ap greatest (map_agree f g all (All-weaker (Contains all) (λ y. f y ≡ g y) each all (All-contains_itself all)))
-
 -- the least walk of the greatest sum is the same one where the sums over all walks are the same
 least_best-same : (rows : List (List ℕ)) (r w : ℕ → ℕ → ℕ) (n t a : ℕ) (y : List ℕ) → ((z : List ℕ) → Contains (walks rows n a) z → sum_along r t z ≡ sum_along w t z) →
     IsLeastBest rows r n t a y → IsLeastBest rows w n t a y
 least_best-same rows r w n t a y each is =
-    let most : greatest_sum rows r n t a ≡ greatest_sum rows w n t a = greatest_over-same (sum_along r t) (sum_along w t) (walks rows n a) each in
+    let most : greatest_sum rows r n t a ≡ greatest_sum rows w n t a = greatest-same (sum_along r t) (sum_along w t) (walks rows n a) each in
     record {
       walk = is.walk;
       best = sym (each y is.walk) ∙ is.best ∙ most;
@@ -167,16 +152,6 @@ module _ (p o : Problem) (same : AreSame p o) where
       let front = factors_same q x 1 (omega arith) (omega (arith, is.size)) places is.within in
       let look = look_same x is t a from to place in
       rw (weight, front, look, same.look_denominator, same.horizon) refl)
-
-  edge_reward_same : (q : List ℕ) → All (λ a. a < p.positions) q → (t a b : ℕ) → 2 ≤ t → t ≤ p.horizon → a < p.positions → b < p.positions → edge_reward_of p q t a b ≡ edge_reward_of o q t a b
-  unfolding edge_reward_of
-  edge_reward_same q places t a b from to place next =
-      tracks_same _ _ (λ x is.
-      let weight = weight_same p.horizon x (omega arith) is in
-      let front = factors_same q x 1 (omega arith) (omega (arith, is.size)) places is.within in
-      let before = look_same x is (t - 1) a (omega (arith, from)) (omega (arith, to)) place in
-      let look = look_same x is t b (omega (arith, from)) to next in
-      rw (weight, front, before, look, same.look_denominator, same.horizon) refl)
 
   gain_same : (rate : ℕ) (whole : List ℕ) → All (λ a. a < p.positions) whole → (t a : ℕ) → 1 ≤ t → t ≤ p.horizon → a < p.positions → gain_of p rate whole t a ≡ gain_of o rate whole t a
   unfolding gain_of
@@ -278,23 +253,7 @@ module _ (p o : Problem) (same : AreSame p o) (sound : IsProblem p) where
       greatest (map f (continuations p q)) ≡ greatest (map g (continuations o q))
   greatest_same q legal f g each =
       let every : (y : List ℕ) → Contains (continuations p q) y → f y ≡ g y = λ y listed. let inside = continuation_within q y legal listed in each y inside.0 inside.1 in
-      rw (← same.moves, ← same.horizon, ← same.start) (greatest_over-same f g (continuations p q) every)
-
-  pub mean_same : (q : List ℕ) → IsLegal p q → mean_of p q ≡ mean_of o q
-  mean_same q legal =
-      let most = greatest_same q legal (sum_along (reward_of p q) (length q + 1)) (sum_along (reward_of o q) (length q + 1)) (λ y short within. reward_sum_same q y legal short within) in
-      cc (value_same_legal q legal, most)
-
-  edge_sum-same : (q : List ℕ) → All (λ a. a < p.positions) q → (y : List ℕ) → length q + length y ≤ p.horizon → All (λ a. a < p.positions) y → edge_sum p q y ≡ edge_sum o q y
-  edge_sum-same q places [] short within = refl
-  edge_sum-same q places (a ∷ y) short within =
-      let here = All-head (λ a. a < p.positions) a y within in
-      let first = reward_same p o same q places (length q + 1) a (omega arith) (omega (arith, short)) here in
-      let rest = sum_moves-same p.positions p.horizon (edge_reward_of p q) (edge_reward_of o q) (length q + 2) a y (λ t b c from to at next. edge_reward_same p o same q places t b c (omega (arith, from)) to at next) (omega (arith, short)) here (All-tail (λ a. a < p.positions) a y within) in
-      rw (first, rest) refl
-
-  pub edge_same : (q : List ℕ) → IsLegal p q → edge_of p q ≡ edge_of o q
-  edge_same q legal = cc (value_same_legal q legal, greatest_same q legal (edge_sum p q) (edge_sum o q) (edge_sum-same q (legal_within q legal)))
+      rw (← same.moves, ← same.horizon, ← same.start) (greatest-same f g (continuations p q) every)
 
   pub tangent_same : (rate : ℕ) (q whole : List ℕ) → IsLegal p q → IsPath p whole → tangent_of p rate q whole ≡ tangent_of o rate q whole
   tangent_same rate q whole legal path =

@@ -1,5 +1,5 @@
--- Problems that are the same search have the same bounds that remember looks.
-use Rattle.std.proofs.Common.{ℕ, ◌+◌, ◌*◌, ◌-◌, ◌^◌, ◌<◌, ◌≤◌, ◌≡◌, List, [], ◌∷◌, length, take, refl, subst, arith, sum_by, All}
+-- Problems that are the same search have the same bounds that remember looks, of which the mean bound and the edge bound are two.
+use Rattle.std.proofs.Common.{ℕ, ◌+◌, ◌*◌, ◌-◌, ◌^◌, ◌<◌, ◌≤◌, ◌≡◌, List, [], ◌∷◌, length, take, refl, sym, subst, ◌∙◌, arith, sum_by, All}
 use Rattle.std.proofs.Math.Nat.{min-le_right}
 use Rattle.std.proofs.lemmas.List.Elements.{All-nil, All-cons, All-head, All-tail, All-take}
 use Rattle.std.proofs.lemmas.List.{length-take}
@@ -8,17 +8,14 @@ use Rattle.search_model.specs.Same.{AreSame}
 use Rattle.search_model.specs.Legal.{IsLegal}
 use Rattle.sweep_table.specs.LookParts.{factor_of}
 use Rattle.search_model.specs.Tracks.{tracks, weight_of}
-use Rattle.search_model.specs.Bounds.{factors_along, cell_in}
+use Rattle.search_model.specs.Bounds.{factors_along, cell_in, mean_of}
+use Rattle.search_model.specs.Edge.{edge_of}
 use Rattle.search_model.specs.Memory.{factors_before, reward_after, sum_remembering, remembering_of}
+use Rattle.search_model.proofs.Remembering.{remembering_of-none, remembering_of-one}
 use Rattle.search_model.proofs.SameSearch.{factors_same, weight_same, tracks_same_long, legal_within, value_same_legal, greatest_same}
 use Rattle.search_model.proofs.TrackMembers.{IsTrack}
-use Rattle.bound_tree.specs.Asked.{HasTwoLooks}
 
 module _ (p o : Problem) (same : AreSame p o) where
-  -- the same prefixes are asked for the one of two looks
-  pub two_asked_same : (q : List ℕ) → HasTwoLooks p q → HasTwoLooks o q
-  two_asked_same q asked = record { periods = rw (← same.horizon) asked.periods; short = rw (← same.horizon) asked.short }
-
   -- what looks just before a period miss along a track
   before_same : (x : List ℕ) → IsTrack p.cells p.horizon x → (t : ℕ) (recent : List ℕ) → length recent + 1 ≤ t → t ≤ p.horizon + 1 → All (λ a. a < p.positions) recent →
       factors_before p t recent x ≡ factors_before o t recent x
@@ -64,3 +61,9 @@ module _ (p o : Problem) (same : AreSame p o) where
       let most = greatest_same p o same sound q legal (sum_remembering p m q [] (length q + 1)) (sum_remembering o m q [] (length q + 1))
       (λ y short within. sum_same m q places [] (length q + 1) y (omega arith) (omega (arith, short)) (All-nil (λ a. a < p.positions)) within) in
       cc (value_same_legal p o same sound q legal, most)
+
+  pub mean_same : IsProblem p → (q : List ℕ) → IsLegal p q → mean_of p q ≡ mean_of o q
+  mean_same sound q legal = sym (remembering_of-none p q) ∙ remembering_same sound 0 q legal ∙ remembering_of-none o q
+
+  pub edge_same : IsProblem p → (q : List ℕ) → IsLegal p q → edge_of p q ≡ edge_of o q
+  edge_same sound q legal = sym (remembering_of-one p q) ∙ remembering_same sound 1 q legal ∙ remembering_of-one o q
