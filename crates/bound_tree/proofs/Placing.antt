@@ -1,5 +1,5 @@
 -- Which prefixes are expected where a text leaves them out.
-use Rattle.std.proofs.Common.{◌≡◌, ℕ, List, [], ◌∷◌, ◌++◌, length, Bool, true, false, cond, refl, sym, subst, All}
+use Rattle.std.proofs.Common.{◌≡◌, ◌<◌, ℕ, List, [], ◌∷◌, ◌++◌, length, inl, inr, Bool, true, false, cond, refl, sym, subst, All}
 use Rattle.std.specs.Prelude.{nat_lt}
 use Rattle.std.proofs.lemmas.Bool.{cond_both, lt-ltb, ltb-true}
 use Rattle.std.proofs.lemmas.List.Elements.{All-nil, All-cons, All-head, All-tail, All-append}
@@ -7,26 +7,27 @@ use Rattle.search_model.specs.declared.standing.Standing.{Standing}
 use Rattle.search_model.specs.Problem.{Problem}
 use Rattle.search_model.specs.Legal.{IsLegal}
 use Rattle.bound_tree.specs.declared.node.Kind.{Kind}
-use Rattle.bound_tree.specs.declared.node.Kind.TheVariants.{Branch, Whole, Mean, Tangent, Edge, Exchange, TwoLooks}
+use Rattle.bound_tree.specs.declared.node.Kind.TheVariants.{Branch}
 use Rattle.bound_tree.specs.declared.node.TreeNode.{TreeNode}
 use Rattle.bound_tree.specs.Accepts.{IsGoodKind, IsGood, expected_by, AreEaten}
 use Rattle.bound_tree.specs.Places.{opened_by, AreInPlace, EatenIsPlacedAndGood, EatenAreInPlace}
-use Rattle.bound_tree.proofs.Rooms.{legal_expected}
+use Rattle.bound_tree.proofs.Rooms.{branch_or_leaf, legal_expected}
 
 -- either way nothing is expected
 pub nothing_either_way : (b : Bool) → ◌≡◌ {A = List (List ℕ)} (cond b [] []) []
 nothing_either_way true = refl
 nothing_either_way false = refl
 
--- a good record makes the same expected whether its length is asked for or not
+-- where only short prefixes branch, a record makes the same expected whether its length is asked for or not
+pub opened_by_short : (p : Problem) (q : List ℕ) (kind : Kind) → (kind ≡ Branch → length q < p.horizon) → opened_by p q kind ≡ expected_by p q kind
+opened_by_short p q kind short = elim (branch_or_leaf kind) [
+  | inl branch ↦ rw (lt-ltb (length q) p.horizon (short branch)) refl
+  | inr leaf ↦ rw (leaf p q) (nothing_either_way (nat_lt (length q) p.horizon))
+]
+
+-- and so does a good one
 pub opened_by_good : (p : Problem) (s : Standing) (q : List ℕ) (kind : Kind) → IsGoodKind p s q kind → opened_by p q kind ≡ expected_by p q kind
-opened_by_good p s q Branch good = rw (lt-ltb (length q) p.horizon good) refl
-opened_by_good p s q (Whole n) good = nothing_either_way (nat_lt (length q) p.horizon)
-opened_by_good p s q (Mean b) good = nothing_either_way (nat_lt (length q) p.horizon)
-opened_by_good p s q (Tangent b whole) good = nothing_either_way (nat_lt (length q) p.horizon)
-opened_by_good p s q (Edge b) good = nothing_either_way (nat_lt (length q) p.horizon)
-opened_by_good p s q (Exchange b u) good = nothing_either_way (nat_lt (length q) p.horizon)
-opened_by_good p s q (TwoLooks b) good = nothing_either_way (nat_lt (length q) p.horizon)
+opened_by_good p s q kind good = opened_by_short p q kind (λ branch. subst (IsGoodKind p s q) branch good)
 
 -- records that are eaten are in place
 in_place : (p : Problem) (s : Standing) (rs : List TreeNode) (qs : List (List ℕ)) → AreEaten p s qs rs → AreInPlace p qs rs

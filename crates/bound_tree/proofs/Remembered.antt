@@ -6,8 +6,7 @@ use Rattle.std.proofs.lemmas.List.Elements.{All-map, All-weaker, All-contains_it
 use Rattle.search_model.specs.Problem.{Problem}
 use Rattle.search_model.specs.Legal.{last_of, continuations}
 use Rattle.search_model.specs.Tracks.{value_of}
-use Rattle.search_model.specs.Bounds.{reward_of, sum_along, greatest}
-use Rattle.search_model.specs.Edge.{edge_sum}
+use Rattle.search_model.specs.Bounds.{greatest}
 use Rattle.search_model.specs.Memory.{sum_remembering}
 use Rattle.list_laws.proofs.Members.{Contains-map, Contains-map_cases}
 use Rattle.search_model.proofs.Greatest.{greatest_above, greatest_below, greatest_reached}

@@ -1,5 +1,5 @@
 -- What a record makes expected is legal, and has room on the stack.
-use Rattle.std.proofs.Common.{subst, ◌≡◌, ℕ, ◌+◌, ◌*◌, ◌≤◌, ◌<◌, List, [], ◌∷◌, ◌++◌, map, reverse, length, refl, ap, ◌∙◌, arith, length-append, get_or, All}
+use Rattle.std.proofs.Common.{subst, ◌≡◌, ◌⊎◌, inl, inr, ℕ, ◌+◌, ◌*◌, ◌≤◌, ◌<◌, List, [], ◌∷◌, ◌++◌, map, reverse, length, refl, ap, ◌∙◌, arith, length-append, get_or, All}
 use Rattle.std.proofs.lemmas.List.{length-map, reverse-append, reverse-reverse}
 use Rattle.std.proofs.lemmas.List.Elements.{All-head, All-tail, All-nil, All-map, All-contains_itself}
 use Rattle.search_model.specs.Problem.{Problem, IsProblem}
@@ -10,17 +10,25 @@ use Rattle.bound_tree.specs.Accepts.{expected_by}
 use Rattle.bound_tree.specs.Room.{HasRoom}
 use Rattle.search_model.proofs.Children.{few_moves, child_is_legal}
 
+-- a kind is a Branch, or makes nothing expected
+pub branch_or_leaf : (kind : Kind) → (kind ≡ Branch) ⊎ ((p : Problem) (q : List ℕ) → expected_by p q kind ≡ [])
+branch_or_leaf Branch = inl refl
+branch_or_leaf (Whole n) = inr (λ p q. refl)
+branch_or_leaf (Mean b) = inr (λ p q. refl)
+branch_or_leaf (Tangent b whole) = inr (λ p q. refl)
+branch_or_leaf (Edge b) = inr (λ p q. refl)
+branch_or_leaf (Exchange b u) = inr (λ p q. refl)
+branch_or_leaf (TwoLooks b) = inr (λ p q. refl)
+
 -- what a record at a legal prefix makes expected is legal
 pub legal_expected : (p : Problem) (q : List ℕ) (kind : Kind) → IsLegal p q → (kind ≡ Branch → length q < p.horizon) → All (IsLegal p) (expected_by p q kind)
-legal_expected p q Branch legal short =
-    All-map (IsLegal p) (λ a. q ++ a ∷ []) (moves_after p q)
-    (λ k d l. child_is_legal p q (get_or (moves_after p q) k d) legal (short refl) (All-contains_itself (moves_after p q) k d l))
-legal_expected p q (Whole n) legal short = All-nil (IsLegal p)
-legal_expected p q (Mean b) legal short = All-nil (IsLegal p)
-legal_expected p q (Tangent b whole) legal short = All-nil (IsLegal p)
-legal_expected p q (Edge b) legal short = All-nil (IsLegal p)
-legal_expected p q (Exchange b u) legal short = All-nil (IsLegal p)
-legal_expected p q (TwoLooks b) legal short = All-nil (IsLegal p)
+legal_expected p q kind legal short = elim (branch_or_leaf kind) [
+  | inl branch ↦
+      rw branch
+      (All-map (IsLegal p) (λ a. q ++ a ∷ []) (moves_after p q)
+      (λ k d l. child_is_legal p q (get_or (moves_after p q) k d) legal (short branch) (All-contains_itself (moves_after p q) k d l)))
+  | inr leaf ↦ rw (leaf p q) (All-nil (IsLegal p))
+]
 
 -- where at most 63 prefixes for each position of q are expected behind it, up to 64 children of q have room before them
 HasRoom-children : (q : List ℕ) (ms : List ℕ) (qs : List (List ℕ)) → length ms ≤ 64 → length qs ≤ 63 * length q → HasRoom qs → HasRoom (map (λ d. q ++ d ∷ []) ms ++ qs)
@@ -48,10 +56,7 @@ room_left p q qs sound short room = let first = room.0 in let most = sound.horiz
 
 -- where there was room for the prefix, there is room for what its record makes expected
 pub room_expected : (p : Problem) (q : List ℕ) (kind : Kind) (qs : List (List ℕ)) → IsProblem p → IsLegal p q → HasRoom (q ∷ qs) → HasRoom (expected_by p q kind ++ qs)
-room_expected p q Branch qs sound legal room = HasRoom-children q (moves_after p q) qs (few_moves p q sound legal) (let first = room.0 in omega (arith, first)) room.1
-room_expected p q (Whole n) qs sound legal room = room.1
-room_expected p q (Mean b) qs sound legal room = room.1
-room_expected p q (Tangent b whole) qs sound legal room = room.1
-room_expected p q (Edge b) qs sound legal room = room.1
-room_expected p q (Exchange b u) qs sound legal room = room.1
-room_expected p q (TwoLooks b) qs sound legal room = room.1
+room_expected p q kind qs sound legal room = elim (branch_or_leaf kind) [
+  | inl branch ↦ rw branch (HasRoom-children q (moves_after p q) qs (few_moves p q sound legal) (let first = room.0 in omega (arith, first)) room.1)
+  | inr leaf ↦ rw (leaf p q) room.1
+]

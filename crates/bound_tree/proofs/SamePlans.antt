@@ -1,5 +1,5 @@
 -- A plan that is accepted for a problem is accepted for each problem that is the same search.
-use Rattle.std.proofs.Common.{ℕ, ◌≡◌, List, [], ◌∷◌, ◌++◌, refl, sym, ◌∙◌, subst, arith, All}
+use Rattle.std.proofs.Common.{ℕ, ◌≡◌, inl, inr, List, [], ◌∷◌, ◌++◌, refl, sym, ◌∙◌, subst, arith, All}
 use Rattle.std.proofs.lemmas.List.Elements.{All-nil, All-cons, All-head, All-tail, All-append}
 use Rattle.search_model.specs.declared.standing.Standing.{Standing}
 use Rattle.search_model.specs.Problem.{Problem, IsProblem}
@@ -10,7 +10,7 @@ use Rattle.bound_tree.specs.declared.node.Kind.TheVariants.{Branch, Whole, Mean,
 use Rattle.bound_tree.specs.declared.node.TreeNode.{TreeNode}
 use Rattle.bound_tree.specs.Exchanges.{exchanged}
 use Rattle.bound_tree.specs.Accepts.{IsGoodKind, expected_by, AreEaten}
-use Rattle.bound_tree.proofs.Rooms.{legal_expected}
+use Rattle.bound_tree.proofs.Rooms.{branch_or_leaf, legal_expected}
 use Rattle.bound_tree.proofs.StandIns.{exchanged-long}
 use Rattle.bound_tree.proofs.SameStandIns.{asked_same, two_asked_same}
 use Rattle.bound_tree.specs.Places.{opened_by, AreInPlace}
@@ -22,13 +22,10 @@ use Rattle.search_model.proofs.SameMemory.{mean_same, edge_same, remembering_sam
 module _ (p o : Problem) (same : AreSame p o) where
   -- a record makes the same prefixes expected
   pub expected_same : (q : List ℕ) (kind : Kind) → expected_by p q kind ≡ expected_by o q kind
-  expected_same q Branch = rw (same.moves, same.start) refl
-  expected_same q (Whole n) = refl
-  expected_same q (Mean b) = refl
-  expected_same q (Tangent b whole) = refl
-  expected_same q (Edge b) = refl
-  expected_same q (Exchange b u) = refl
-  expected_same q (TwoLooks b) = refl
+  expected_same q kind = elim (branch_or_leaf kind) [
+    | inl branch ↦ rw (branch, same.moves, same.start) refl
+    | inr leaf ↦ leaf p q ∙ sym (leaf o q)
+  ]
 
   -- the same records are in place
   pub in_place_same : (qs : List (List ℕ)) (rs : List TreeNode) → AreInPlace p qs rs → AreInPlace o qs rs

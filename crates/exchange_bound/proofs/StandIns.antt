@@ -1,5 +1,5 @@
 -- Prefixes with another position in place of their last but one: when they stand in, and which is the best.
-use Rattle.std.proofs.Common.{ℕ, ◌-◌, ◌<◌, ◌≤◌, ◌≡◌, ◌≢◌, List, [], ◌∷◌, length, take, slice_index, inl, inr, true, false, refl, sym, ap, subst, ◌∙◌, arith, IsTrue, Contains}
+use Rattle.std.proofs.Common.{ℕ, ◌-◌, ◌<◌, ◌≤◌, ◌≡◌, ◌≢◌, List, [], ◌∷◌, length, take, slice_index, inl, inr, true, false, sym, ap, subst, ◌∙◌, arith, IsTrue, Contains}
 use Rattle.std.proofs.lemmas.Bool.{true≢false}
 use Rattle.search_model.specs.Problem.{Problem}
 use Rattle.search_model.specs.Legal.{IsLegal, moves_after}

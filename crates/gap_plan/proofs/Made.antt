@@ -29,7 +29,7 @@ use Rattle.bound_tree.specs.Places.{opened_by, AreInPlace}
 use Rattle.bound_tree.proofs.Placing.{placed_are_legal}
 use Rattle.search_core.specs.Balance.{MeetsEquation}
 use Rattle.search_core.specs.Laws.{BranchesAreShort}
-use Rattle.search_core.proofs.Children.{branch_or_leaf}
+use Rattle.bound_tree.proofs.Rooms.{branch_or_leaf}
 use Rattle.search_core.proofs.Preorder.{good_are_short, balanced_is_placed}
 use Rattle.tree_gather.proofs.Sorted.{sorted_is_gathered}
 use Rattle.gap_plan.specs.Nodes.{waiting_node, nodes_of, numbered, record_at, closed_in}

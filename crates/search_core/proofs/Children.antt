@@ -1,5 +1,5 @@
 -- The children of Branch records, counted.
-use Rattle.std.proofs.Common.{◌≡◌, ◌≢◌, ◌⊎◌, ℕ, ◌+◌, ◌≤◌, ◌<◌, List, [], ◌∷◌, ◌++◌, map, length, inl, inr, sym, refl, ap, subst, arith, Contains, bytes_eq}
+use Rattle.std.proofs.Common.{◌≡◌, ◌≢◌, ℕ, ◌+◌, ◌≤◌, ◌<◌, List, [], ◌∷◌, ◌++◌, map, length, inl, inr, sym, refl, ap, subst, arith, Contains, bytes_eq}
 use Rattle.std.proofs.lemmas.Bool.{cond_both, cases_lt}
 use Rattle.std.proofs.lemmas.List.{same_from_push, get_or_past}
 use Rattle.std.proofs.lemmas.List.Elements.{All-contains}
@@ -11,10 +11,11 @@ use Rattle.search_model.specs.Problem.{Problem, IsProblem}
 use Rattle.search_model.specs.Legal.{last_of, moves_after}
 use Rattle.list_laws.proofs.Members.{Contains-nil, Contains-map_cases}
 use Rattle.bound_tree.specs.declared.node.Kind.{Kind}
-use Rattle.bound_tree.specs.declared.node.Kind.TheVariants.{Branch, Whole, Mean, Tangent, Edge, Exchange, TwoLooks}
+use Rattle.bound_tree.specs.declared.node.Kind.TheVariants.{Branch}
 use Rattle.bound_tree.specs.declared.node.TreeNode.{TreeNode}
 use Rattle.bound_tree.specs.Accepts.{prefixes_of}
 use Rattle.bound_tree.specs.Accepts.{expected_by}
+use Rattle.bound_tree.proofs.Rooms.{branch_or_leaf}
 use Rattle.search_core.specs.Counts.{count_of}
 use Rattle.search_core.specs.Balance.{expected_of}
 use Rattle.search_core.proofs.Counts.{count_of-append, count_of_here, none_counted}
@@ -44,16 +45,6 @@ front_of x (y ∷ q) = let rest = front_of y q in (x ∷ rest.0, rest.1, ap (λ 
 pub no_push : (q : List ℕ) (d : ℕ) → q ++ d ∷ [] ≢ []
 no_push [] d e = cc
 no_push (x ∷ q) d e = cc
-
--- a kind is a Branch, or makes nothing expected
-pub branch_or_leaf : (kind : Kind) → (kind ≡ Branch) ⊎ ((p : Problem) (q : List ℕ) → expected_by p q kind ≡ [])
-branch_or_leaf Branch = inl refl
-branch_or_leaf (Whole n) = inr (λ p q. refl)
-branch_or_leaf (Mean b) = inr (λ p q. refl)
-branch_or_leaf (Tangent b whole) = inr (λ p q. refl)
-branch_or_leaf (Edge b) = inr (λ p q. refl)
-branch_or_leaf (Exchange b u) = inr (λ p q. refl)
-branch_or_leaf (TwoLooks b) = inr (λ p q. refl)
 
 -- only a branch makes prefixes expected, its children
 pub expected_cases : (p : Problem) (q : List ℕ) (kind : Kind) (r : List ℕ) → Contains (expected_by p q kind) r →

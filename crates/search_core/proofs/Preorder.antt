@@ -1,7 +1,6 @@
 -- Balanced records in preorder are in place, and eaten where they are good.
 use Rattle.std.proofs.Common.{◌≡◌, ℕ, ◌+◌, ◌<◌, true, false, List, [], ◌∷◌, ◌++◌, map, inl, inr, sym, refl, ap, ◌∙◌, subst, arith, get_or, length, Contains, All, AllPairs, append_assoc, append-nil}
-use Rattle.std.specs.Prelude.{nat_lt}
-use Rattle.std.proofs.lemmas.Bool.{cases_lt, lt-ltb, true≢false}
+use Rattle.std.proofs.lemmas.Bool.{cases_lt, true≢false}
 use Rattle.std.proofs.lemmas.List.Elements.{All-nil, All-head, All-tail, All-contains, All-map, All-weaker}
 use Rattle.list_laws.proofs.Pairs.{AllPairs-nil, AllPairs-cons, AllPairs-head, AllPairs-tail, AllPairs-append, AllPairs-map}
 use Rattle.search_model.specs.declared.standing.Standing.{Standing}
@@ -16,13 +15,14 @@ use Rattle.bound_tree.specs.declared.node.TreeNode.{TreeNode}
 use Rattle.bound_tree.specs.Accepts.{prefixes_of}
 use Rattle.bound_tree.specs.Accepts.{children_of, expected_by, IsGoodKind, IsGood}
 use Rattle.bound_tree.specs.Places.{opened_by, AreInPlace}
-use Rattle.bound_tree.proofs.Placing.{eaten_is_placed_and_good, nothing_either_way}
+use Rattle.bound_tree.proofs.Placing.{eaten_is_placed_and_good, opened_by_short}
 use Rattle.search_core.specs.Counts.{count_of}
 use Rattle.search_core.specs.Balance.{expected_of}
 use Rattle.search_core.specs.Laws.{IsPreorder, BranchesAreShort, BalancedIsPlaced, BalancedIsAccepted}
 use Rattle.search_core.proofs.Counts.{count_of-append, count_of_here, Contains-counted}
 use Rattle.search_core.proofs.Order.{IsAbove}
-use Rattle.search_core.proofs.Children.{Rises, moves_rise, branch_or_leaf, expected_cases}
+use Rattle.bound_tree.proofs.Rooms.{branch_or_leaf}
+use Rattle.search_core.proofs.Children.{Rises, moves_rise, expected_cases}
 
 -- all that begins with q is smaller than r
 abbrev Before : List ℕ → List ℕ → Type 0
@@ -59,13 +59,6 @@ first_is_least r rs pre s h = elim (Contains-cons_cases r s rs h) [
 -- a record that branches only below the horizon
 abbrev IsShort : Problem → TreeNode → Type 0
 IsShort p r = r.kind ≡ Branch → length r.prefix < p.horizon
-
--- it makes the same expected whether its length is asked for or not
-opened_by_short : (p : Problem) (q : List ℕ) (kind : Kind) → (kind ≡ Branch → length q < p.horizon) → opened_by p q kind ≡ expected_by p q kind
-opened_by_short p q kind short = elim (branch_or_leaf kind) [
-  | inl branch ↦ rw (lt-ltb (length q) p.horizon (short branch)) refl
-  | inr leaf ↦ rw (leaf p q) (nothing_either_way (nat_lt (length q) p.horizon))
-]
 
 module _ (p : Problem) (sound : IsProblem p) where
   expected_ordered : (q : List ℕ) (kind : Kind) (qs : List (List ℕ)) → AreOrdered (q ∷ qs) → AreOrdered (expected_by p q kind ++ qs)

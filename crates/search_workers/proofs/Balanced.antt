@@ -9,7 +9,8 @@ use Rattle.steal_pool.specs.Kits.{KitView, put_of, taken_of}
 use Rattle.search_core.specs.Counts.{count_of, SameItems}
 use Rattle.search_core.specs.Balance.{expected_of}
 use Rattle.search_core.proofs.Counts.{count_of-append}
-use Rattle.search_core.proofs.Children.{branch_or_leaf, expected-append, prefixes-append}
+use Rattle.bound_tree.proofs.Rooms.{branch_or_leaf}
+use Rattle.search_core.proofs.Children.{expected-append, prefixes-append}
 use Rattle.tree_gather.specs.Hauls.{Haul, IsHaulBalanced}
 use Rattle.search_workers.specs.Desks.{DeskView}
 use Rattle.search_workers.specs.Steps.{Records, Stays}

@@ -93,8 +93,8 @@ fn settle_both(
     Ok(tasks)
 }
 
-/// Settles the kits of all workers: their desks, and the tasks left, with what is on their agendas. Where memory runs out for these, all desks are there
-/// still.
+/// Settles the kits of all workers: their desks, and the tasks left, with what is on their agendas. Where memory runs out for
+/// these, all desks are there still.
 pub fn settle_all(
     alloc: Global,
     crew: Vec<Member>,
