@@ -9,7 +9,8 @@ import tempfile
 import time
 
 TOP = os.path.dirname(os.path.dirname(os.path.realpath(__file__)))
-OSP = os.path.join(TOP, "crates", "osp", "out", "osp")
+# The program that is run: the proved one, or the file that a variable names, as one of bench/unproved.
+OSP = os.path.abspath(os.environ.get("OSP_PROGRAM") or os.path.join(TOP, "crates", "osp", "out", "osp"))
 
 
 class Stopped(Exception):
