@@ -7,12 +7,12 @@ use Rattle.std.proofs.lemmas.Bool.{cases_eq, eq-eqb, ne_eqb}
 use Rattle.std.proofs.lemmas.List.{get_or-replicate, length-replicate, take_all, take-append-le, drop-append-le}
 use Rattle.std.proofs.lemmas.List.Elements.{All-append, All-weaker, All-head, All-tail, All-cons, All-nil}
 use Rattle.std.proofs.lemmas.List.Sums.{sum_by_more, sum_by_more_le, sum_by-cons, sum_by-append}
-use Rattle.drift_chain.specs.DriftRows.{part_of}
+use Rattle.drift_chain.specs.DriftRows.{DriftRows, row_of, part_of}
 use Rattle.search_model.specs.Problem.{Problem, IsProblem}
 use Rattle.list_laws.proofs.Sums.{sum_by-range-same}
 use Rattle.belief_update.specs.declared.flows.UnitPart.{UnitPart}
 use Rattle.belief_update.specs.declared.flows.Span.{Span}
-use Rattle.belief_update.specs.Flows.{unit_of, held_in, entry_of, entries_in, span_of, HoldMasses, HoldUnit, FlowState, IsFlow, AreFlows}
+use Rattle.belief_update.specs.Flows.{unit_of, held_in, entry_of, entries_in, span_of, HoldMasses, HoldUnit, HoldUnits, FlowState, IsFlow, AreFlows}
 use Rattle.belief_update.proofs.Units.{unit_of-first, unit_of-step, unit_of-fits}
 
 -- no entries hold nothing
@@ -261,3 +261,22 @@ flows_set p flows i f none are more =
       all = λ some. size ∙ are.all (omega (arith, some, size));
       alike = λ some. are.alike (omega (arith, some, size));
     }
+
+-- a drift without changes sends on the same in each period
+pub steps_alike : (drift : DriftRows) → drift.changes ≡ [] → (t u c : ℕ) → row_of drift t c ≡ row_of drift u c
+unfolding row_of
+steps_alike drift none t u c = rw none refl
+
+-- no units are nowhere
+pub no_units : (p : Problem) (a n : ℕ) → HoldUnits p a 0 n []
+no_units p a n = record {
+  cells = All-nil (λ (e : UnitPart). e.cell < p.cells);
+  each = λ d here. omega arith;
+}
+
+-- units are where one is
+pub units_held : (p : Problem) (a units n : ℕ) (entries : List UnitPart) → HoldUnit p a n entries → HoldUnits p a units n entries
+units_held p a units n entries hold = record {
+  cells = hold.cells;
+  each = λ d here. ap (λ (part : ℕ). units * part) (hold.each d here);
+}

@@ -12,7 +12,7 @@ use Rattle.belief_update.specs.Masses.{looks_to}
 use Rattle.belief_update.specs.Belief.{BeliefState, IsBelief}
 use Rattle.belief_update.specs.Taken.{TakenState, IsTaken}
 use Rattle.belief_update.specs.declared.flows.UnitPart.{UnitPart}
-use Rattle.belief_update.specs.Flows.{DriftsAlike, unit_of, HoldUnit, IsUnits, IsOwn, units_on, IsMadeUp}
+use Rattle.belief_update.specs.Flows.{DriftsAlike, unit_of, HoldUnits, IsUnits, IsOwn, units_on, IsMadeUp}
 use Rattle.belief_update.proofs.Units.{unit_of-first, unit_of-step}
 use Rattle.belief_update.proofs.OwnLooks.{own_factors, own_factor_there}
 use Rattle.belief_update.proofs.TakenSteps.{look_scales, drift_taken}
@@ -90,7 +90,7 @@ module _ (p : Problem) (q : List ℕ) (a : ℕ) (s : TakenState) (taken : IsTake
 
 -- in a later period they are where the entries of the flow have them
 pub units_there : (p : Problem) (q : List ℕ) (a units n : ℕ) (b : BeliefState) (entries : List UnitPart) → IsMadeUp p q a units → 1 ≤ n → length q + 1 + n ≤ p.horizon →
-    IsBelief p (looks_to (length q + 1 + n) q) b → HoldUnit p a n entries → IsUnits p q (q ++ a ∷ []) b units entries (record { period = length q + 1 + n; scale = p.sweep.denominator; masses = units_on p a units n })
+    IsBelief p (looks_to (length q + 1 + n) q) b → HoldUnits p a units n entries → IsUnits p q (q ++ a ∷ []) b units entries (record { period = length q + 1 + n; scale = p.sweep.denominator; masses = units_on p a units n })
 units_there p q a units n b entries made some last belief hold = record {
   later = record {
     one = length-append q (a ∷ []);
@@ -98,5 +98,5 @@ units_there p q a units n b entries made some last belief hold = record {
     beside = record { belief = belief; taken = made n last };
   };
   cells = hold.cells;
-  units = λ c here. rw (units_on-at p a units n c here, hold.each c here) refl;
+  units = λ c here. units_on-at p a units n c here ∙ sym (hold.each c here);
 }

@@ -36,6 +36,11 @@ pub record HoldUnit (p : Problem) (a n : ℕ) (entries : List UnitPart) : Type 0
   pub cells : All (λ entry. entry.cell < p.cells) entries
   pub each : (d : ℕ) → d < p.cells → held_in entries d ≡ unit_of p a n d
 
+-- so many times what the entries have is what so many units in cell a are after n steps
+pub record HoldUnits (p : Problem) (a units n : ℕ) (entries : List UnitPart) : Type 0 where
+  pub cells : All (λ entry. entry.cell < p.cells) entries
+  pub each : (d : ℕ) → d < p.cells → units * held_in entries d ≡ units * unit_of p a n d
+
 -- what contracts see of a flow: the unit after the last step that was made, the entries of all steps, and which are whose
 pub record FlowState : Type 0 where
   pub unit : List ℕ
@@ -57,6 +62,10 @@ pub record IsFlow (p : Problem) (a : ℕ) (f : FlowState) : Type 0 where
   pub order : (n : ℕ) → 1 ≤ n → n ≤ length f.spans → (span_of f.spans n).from ≤ (span_of f.spans n).to
   pub inside : (n : ℕ) → 1 ≤ n → n ≤ length f.spans → (span_of f.spans n).to ≤ length f.entries
   pub rows : (n : ℕ) → 1 ≤ n → n ≤ length f.spans → HoldUnit p a n (entries_in f.entries (span_of f.spans n))
+
+-- the steps up to the n-th are made, where there are units that go them
+abbrev pub HasStepsFor : ℕ → ℕ → FlowState → Type 0
+HasStepsFor units n f = 1 ≤ units → n ≤ length f.spans
 
 -- one look took so many units of the belief, which entries have where they are now
 pub record IsUnits (p : Problem) (q r : List ℕ) (b : BeliefState) (found : ℕ) (entries : List UnitPart) (s : TakenState) : Type 0 where
@@ -87,9 +96,8 @@ pub record AreFlows (p : Problem) (flows : List FlowState) : Type 0 where
   pub all : 1 ≤ length flows → length flows ≡ p.cells
   pub alike : 1 ≤ length flows → DriftsAlike p
 
--- the flow of a position's own cell is there, up to the n-th step
-pub record HasOwnFlow (p : Problem) (flows : List FlowState) (a n : ℕ) : Type 0 where
+-- the flow of a position's own cell is there
+pub record HasOwnFlow (p : Problem) (flows : List FlowState) (a : ℕ) : Type 0 where
   pub own : IsOwn p a
   pub alike : DriftsAlike p
   pub inside : a < length flows
-  pub made : (d : FlowState) → n ≤ length (slice_index_or flows a d).spans

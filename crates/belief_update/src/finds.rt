@@ -6,7 +6,6 @@ ghost use Rattle.belief_update.specs.Found.{found_of};
 use search_model::Scenario;
 
 // What a look from position `a` in period `t` finds of masses, cell by cell of its row.
-#[inline(never)]
 fn found_by_row(sc: &Scenario, t: u32, masses: &[u128], a: u8) -> u128
     requires period { (1 ≤ t) × (t ≤ sc.now.horizon) }
     requires cells { length masses.now ≡ sc.now.cells }

@@ -3,7 +3,7 @@
 ghost use Rattle.std.specs.Prelude.{◌≡◌, ◌<◌, ◌≤◌, ◌+◌, ◌*◌, ◌++◌, ℕ, List, length, IsTrue, IsFalse, IfOk};
 ghost use Rattle.drift_chain.specs.DriftRows.{row_of};
 ghost use Rattle.search_model.specs.Problem.{Problem};
-ghost use Rattle.belief_update.specs.Flows.{entry_of, AreFlows, DriftsAlike, HoldMasses, HoldUnit, IsFlow};
+ghost use Rattle.belief_update.specs.Flows.{entry_of, AreFlows, DriftsAlike, HasStepsFor, HoldMasses, HoldUnits, IsFlow};
 ghost use Rattle.belief_update.specs.declared.flows.UnitPart.{UnitPart as UnitPartLem};
 
 use crate::steps;
@@ -118,8 +118,8 @@ impl Flow {
         }
     }
 
-    /// Makes all steps up to the `n`-th. It says whether there was room for them, as there is from the start.
-    pub fn reach(&mut self, sc: &Scenario, n: usize) -> bool
+    // Makes all steps up to the `n`-th. It says whether there was room for them.
+    fn reach(&mut self, sc: &Scenario, n: usize) -> bool
         requires flow { (a : ℕ) × IsFlow sc.now a self.old }
         requires last { n < sc.now.horizon }
         ensures flow { (a : ℕ) → IsFlow sc.now a self.old → IsFlow sc.now a self.new }
@@ -133,13 +133,27 @@ impl Flow {
         true
     }
 
-    /// The cells that have some of the unit after `n` steps.
-    pub fn row(&self, n: usize) -> &[UnitPart]
-        requires first { 1 ≤ n }
-        requires made { n ≤ length self.now.spans }
-        requires flow { (p : Problem) × (a : ℕ) × IsFlow p a self.now }
-        ensures { (p : Problem) (a : ℕ) → IsFlow p a self.now → HoldUnit p a n result.now }
+    /// Makes all steps up to the `n`-th, where there are units that go them. It says whether there was room for them, as
+    /// there is from the start.
+    pub fn reach_with(&mut self, sc: &Scenario, units: u128, n: usize) -> bool
+        requires flow { (a : ℕ) × IsFlow sc.now a self.old }
+        requires last { n < sc.now.horizon }
+        ensures flow { (a : ℕ) → IsFlow sc.now a self.old → IsFlow sc.now a self.new }
+        ensures made { IsTrue result → HasStepsFor units n self.new }
     {
+        units == 0 || self.reach(sc, n)
+    }
+
+    /// The cells that have some of so many units after `n` steps. Where there are no units, none has, and no step is asked for.
+    pub fn row(&self, units: u128, n: usize) -> &[UnitPart]
+        requires first { 1 ≤ n }
+        requires made { HasStepsFor units n self.now }
+        requires flow { (p : Problem) × (a : ℕ) × IsFlow p a self.now }
+        ensures { (p : Problem) (a : ℕ) → IsFlow p a self.now → HoldUnits p a units n result.now }
+    {
+        if units == 0 {
+            return &[];
+        }
         let span = self.spans[n - 1];
         &self.entries[span.from..span.to]
     }
@@ -174,6 +188,9 @@ pub fn has_first_steps(sc: &Scenario, t: u32) -> bool
 fn drifts_alike(sc: &Scenario) -> bool
     ensures { IsTrue result → DriftsAlike sc.now }
 {
+    if !sc.drift().may_change() {
+        return true;
+    }
     for t in 1..sc.horizon() {
         if !has_first_steps(sc, t) {
             return false;

@@ -69,20 +69,17 @@ fn begin(levels: &mut [Onward], sc: &Scenario)
     levels[0].go_to(sc, &Path::empty());
 }
 
-// Makes the flow of a position's own cell up to the `n`-th step, where its looks cover that cell alone. It says whether it is
-// there.
-fn reach_own(flows: &mut [Flow], sc: &Scenario, a: u8, n: usize) -> bool
+// Whether the flow of a position's own cell is there, and its looks cover that cell alone.
+fn has_own_flow(flows: &[Flow], sc: &Scenario, a: u8) -> bool
     requires position { a < sc.now.positions }
-    requires last { n < sc.now.horizon }
-    requires flows { AreFlows sc.now flows.old }
-    ensures flows { AreFlows sc.now flows.new }
-    ensures there { IsTrue result → HasOwnFlow sc.now flows.new a n }
+    requires flows { AreFlows sc.now flows.now }
+    ensures { IsTrue result → HasOwnFlow sc.now flows.now a }
 {
     if flows.is_empty() {
         return false;
     }
     match sc.sweep().own_part(a) {
-        Some(_) => flows[usize::from(a)].reach(sc, n),
+        Some(_) => true,
         None => false,
     }
 }
@@ -108,8 +105,8 @@ fn open(
 {
     let (before, after) = levels.split_at_mut(i + 1);
     let a = looks[i];
-    if reach_own(flows, sc, a, after.len()) {
-        after[0].look_from_own(sc, &before[i], i, a, taken, &flows[usize::from(a)]);
+    if has_own_flow(flows, sc, a) {
+        after[0].look_from_own(sc, &before[i], i, a, taken, &mut flows[usize::from(a)]);
     } else {
         after[0].look_from(sc, &before[i], i, a, taken);
     }

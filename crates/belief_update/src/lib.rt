@@ -24,7 +24,7 @@ pub use laws::{
 };
 pub use levels::Levels;
 pub use onward::Onward;
-pub use steps::move_on;
+pub use steps::{move_on, spread};
 pub use taken::Taken;
 pub use trail::Trail;
 pub use values::{follow, later_parts, prefix_value, value_by};

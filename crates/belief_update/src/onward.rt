@@ -6,7 +6,7 @@ ghost use Rattle.search_model.specs.Tracks.{value_of};
 ghost use Rattle.belief_update.specs.Trails.{IsPast, IsAhead, HaveAllCells, row_at};
 ghost use Rattle.belief_update.specs.Onward.{AreOnwardTo, IsOnward, IsOnwardBehind, HaveCellsFrom};
 ghost use Rattle.belief_update.specs.Taken.{IsTaken};
-ghost use Rattle.belief_update.specs.Flows.{IsFlow, IsMadeUp};
+ghost use Rattle.belief_update.specs.Flows.{HasStepsFor, IsFlow, IsMadeUp};
 
 use crate::belief::Belief;
 use crate::flows::Flow;
@@ -119,7 +119,7 @@ fn leave_units(
     requires cells { HaveCellsFrom sc.now (k + 1) rows.old }
     requires before { IsOnwardBehind sc.now k before.now }
     requires flow { IsFlow sc.now a flow.now }
-    requires made { sc.now.horizon ≤ k + 1 + length flow.now.spans }
+    requires made { HasStepsFor units (sc.now.horizon - 1 - k) flow.now }
     requires taken { (q : List ℕ) → length q ≡ k → IsOnward sc.now q before.now → IsMadeUp sc.now q a units }
     ensures rows { (q : List ℕ) → length q ≡ k → IsOnward sc.now q before.now →
         AreOnwardTo sc.now (q ++ a ∷ []) sc.now.horizon rows.new }
@@ -127,7 +127,7 @@ fn leave_units(
 {
     sc.recall_sound();
     for t in k + 1..rows.len() {
-        rows[t].leave_units(sc, before.at(t as u32 + 1), units, flow.row(t - k));
+        rows[t].leave_units(sc, before.at(t as u32 + 1), units, flow.row(units, t - k));
     }
 }
 
@@ -233,7 +233,8 @@ impl Onward {
         leave_rows(&mut self.rows, taken, sc, before, k, a);
     }
 
-    /// Goes to the same prefix where looks from the position cover the cell of its number alone, by the flow of that cell.
+    /// Goes to the same prefix where looks from the position cover the cell of its number alone, by the flow of that cell. Where
+    /// the look takes nothing, as on the way to where the target may be, no step of the flow is made.
     pub(crate) fn look_from_own(
         &mut self,
         sc: &Scenario,
@@ -241,26 +242,30 @@ impl Onward {
         k: usize,
         a: u8,
         taken: &mut Taken,
-        flow: &Flow,
+        flow: &mut Flow,
     )
         requires made { IsMadeBehind sc.now (k + 1) self.old }
         requires short { k + 1 < sc.now.horizon }
         requires position { a < sc.now.positions }
         requires own { IsOwn sc.now a }
         requires alike { DriftsAlike sc.now }
-        requires flow { IsFlow sc.now a flow.now }
-        requires steps { sc.now.horizon ≤ k + 1 + length flow.now.spans }
+        requires flow { IsFlow sc.now a flow.old }
         requires room { length taken.old.masses ≡ sc.now.cells }
         requires before { IsOnwardBehind sc.now k before.now }
         ensures made { IsMadeBehind sc.now (k + 1) self.new }
         ensures onward { (q : List ℕ) → length q ≡ k → IsOnward sc.now q before.now →
             IsOnward sc.now (q ++ a ∷ []) self.new }
         ensures room { length taken.new.masses ≡ sc.now.cells }
+        ensures flow { IsFlow sc.now a flow.new }
     {
         sc.recall_sound();
         self.value = value_with(sc, before, k, a, taken);
         let units = taken.masses()[usize::from(a)];
-        leave_units(&mut self.rows, sc, before, k, a, units, flow);
+        if flow.reach_with(sc, units, sc.horizon() as usize - 1 - k) {
+            leave_units(&mut self.rows, sc, before, k, a, units, flow);
+        } else {
+            leave_rows(&mut self.rows, taken, sc, before, k, a);
+        }
     }
 
     /// The belief in a period after the prefix.

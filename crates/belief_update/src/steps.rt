@@ -92,8 +92,8 @@ pub fn weaken(masses: &mut [u128], sweep: &Sweep, t: u32, a: u8)
     }
 }
 
-// Adds what a row sends on of a mass.
-fn spread(next: &mut [u128], row: &[DriftPart], mass: u128)
+/// Adds what a row sends on of a mass.
+pub fn spread(next: &mut [u128], row: &[DriftPart], mass: u128)
     requires entries { All (λ entry. entry.cell < length next.old) row.now }
     requires fits { (d : ℕ) → d < length next.old → slice_index next.old d + mass * part_in row.now d < 2 ^ 127 }
     ensures each { (d : ℕ) → d < length next.old →

@@ -3,6 +3,7 @@ use Rattle.std.proofs.lemmas.List.{length-take-le}
 use Rattle.search_model.specs.Problem.{Problem}
 use Rattle.belief_update.specs.Onward.{OnwardState, IsMadeBehind, IsOnward, IsOnwardBehind}
 use Rattle.belief_update.specs.Levels.{AreLevels}
+use Rattle.belief_update.proofs.FlowSteps.{flows_set}
 use Rattle.belief_update.proofs.LevelSteps.{level_more, level_in_front, level_behind}
 use Rattle.belief_update.proofs.levels.open.Goals as goal
 
@@ -30,12 +31,8 @@ after p looks i levels front back d parts long inside short are =
     subst (λ (k : ℕ). IsMadeBehind p k (slice_index_or back 0 d)) long
     (level_behind p levels front back d parts (omega (arith, ap length parts, length-append front back, long, inside, short, are.size)) are.made)
 
-pub reach_own-requires-clause-position : goal.reach_own-requires-clause-position
-reach_own-requires-clause-position c = c.requires.positions c.args.i 0 c.requires.inside
-
-pub reach_own-requires-clause-last : goal.reach_own-requires-clause-last
-reach_own-requires-clause-last c =
-    omega (arith, ap length c.split_at_mut-before.ensures.value, length-append c.split_at_mut-before.result.0.now c.split_at_mut-before.result.1.now, c.split_at_mut-before.ensures.front_len, c.requires.levels.size)
+pub has_own_flow-requires-clause-position : goal.has_own_flow-requires-clause-position
+has_own_flow-requires-clause-position c = c.requires.positions c.args.i 0 c.requires.inside
 
 pub look_from_own-requires-clause-made : goal.look_from_own-requires-clause-made
 look_from_own-requires-clause-made c =
@@ -43,20 +40,13 @@ look_from_own-requires-clause-made c =
     c.split_at_mut-before.ensures.value c.split_at_mut-before.ensures.front_len c.requires.inside c.requires.short c.requires.levels
 
 pub look_from_own-requires-clause-own : goal.look_from_own-requires-clause-own
-look_from_own-requires-clause-own c = (c.if-reach_own.ensures.there refl).own
+look_from_own-requires-clause-own c = (c.if-has_own_flow.ensures refl).own
 
 pub look_from_own-requires-clause-alike : goal.look_from_own-requires-clause-alike
-look_from_own-requires-clause-alike c = (c.if-reach_own.ensures.there refl).alike
+look_from_own-requires-clause-alike c = (c.if-has_own_flow.ensures refl).alike
 
 pub look_from_own-requires-clause-flow : goal.look_from_own-requires-clause-flow
-look_from_own-requires-clause-flow c = rw c.from.ensures (c.if-reach_own.ensures.flows.each _ _ (c.if-reach_own.ensures.there refl).inside)
-
-pub look_from_own-requires-clause-steps : goal.look_from_own-requires-clause-steps
-look_from_own-requires-clause-steps c =
-    let made = (c.if-reach_own.ensures.there refl).made c.index-flows-from.result in
-    let size = ap length c.split_at_mut-before.ensures.value in
-    rw c.from.ensures
-    (omega (arith, made, size, length-append c.split_at_mut-before.result.0.now c.split_at_mut-before.result.1.now, c.split_at_mut-before.ensures.front_len, c.requires.levels.size))
+look_from_own-requires-clause-flow c = rw c.from.ensures (c.requires.flows.each _ _ (c.if-has_own_flow.ensures refl).inside)
 
 pub look_from_own-requires-clause-before : goal.look_from_own-requires-clause-before
 look_from_own-requires-clause-before c =
@@ -73,12 +63,16 @@ look_from-requires-clause-before c =
     before c.args.sc.now c.args.looks.now c.args.i c.args.levels.now c.split_at_mut-before.result.0.now c.split_at_mut-before.result.1.now _
     c.split_at_mut-before.ensures.value c.split_at_mut-before.ensures.front_len c.requires.inside c.requires.short c.requires.levels
 
-pub returns-then-reach_own-clause-levels : goal.returns-then-reach_own-clause-levels
-returns-then-reach_own-clause-levels c =
+pub returns-then-has_own_flow-clause-levels : goal.returns-then-has_own_flow-clause-levels
+returns-then-has_own_flow-clause-levels c =
     more c.args.sc.now c.args.looks.now c.args.i c.args.levels.now c.split_at_mut-before.result.0.now c.split_at_mut-before.result.1.now _ c.look_from_own.new.self
     c.split_at_mut-before.ensures.value c.split_at_mut-before.ensures.front_len c.requires.inside c.requires.short c.requires.levels c.look_from_own.ensures.made c.look_from_own.ensures.onward
 
-pub returns-else-reach_own-clause-levels : goal.returns-else-reach_own-clause-levels
-returns-else-reach_own-clause-levels c =
+pub returns-else-has_own_flow-clause-levels : goal.returns-else-has_own_flow-clause-levels
+returns-else-has_own_flow-clause-levels c =
     more c.args.sc.now c.args.looks.now c.args.i c.args.levels.now c.split_at_mut-before.result.0.now c.split_at_mut-before.result.1.now _ c.look_from.new.self
     c.split_at_mut-before.ensures.value c.split_at_mut-before.ensures.front_len c.requires.inside c.requires.short c.requires.levels c.look_from.ensures.made c.look_from.ensures.onward
+
+pub returns-then-has_own_flow-clause-flows : goal.returns-then-has_own_flow-clause-flows
+returns-then-has_own_flow-clause-flows c =
+    rw c.from.ensures (flows_set c.args.sc.now c.args.flows.now _ c.look_from_own.new.flow c.index-flows-from.result c.requires.flows (λ flow. c.look_from_own.ensures.flow))

@@ -5,7 +5,7 @@ use Rattle.belief_update.specs.Belief.{BeliefState, IsBelief}
 use Rattle.belief_update.specs.Taken.{TakenState}
 use Rattle.belief_update.specs.Onward.{IsOnward, OnwardState}
 use Rattle.belief_update.specs.Trails.{row_at}
-use Rattle.belief_update.specs.Flows.{IsUnits, IsMadeUp, HoldUnit, units_on}
+use Rattle.belief_update.specs.Flows.{IsUnits, IsMadeUp, HoldUnits, units_on}
 use Rattle.belief_update.specs.declared.flows.UnitPart.{UnitPart}
 use Rattle.belief_update.proofs.OnwardRows.{row_more, belief_at, cells_set, cells_at}
 use Rattle.belief_update.proofs.UnitSteps.{units_there}
@@ -17,7 +17,7 @@ took p q a units n = record { period = length q + 1 + n; scale = p.sweep.denomin
 
 -- in that period its units are where the flow has them
 there : (p : Problem) (q : List ℕ) (a units k t : ℕ) (o : OnwardState) (b : BeliefState) (entries : List UnitPart) → IsOnward p q o → length q ≡ k → k + 1 ≤ t → t < p.horizon → b ≡ row_at o.rows (t + 1 - 1) →
-    IsMadeUp p q a units → HoldUnit p a (t - k) entries → IsUnits p q (q ++ a ∷ []) b units entries (took p q a units (t - k))
+    IsMadeUp p q a units → HoldUnits p a units (t - k) entries → IsUnits p q (q ++ a ∷ []) b units entries (took p q a units (t - k))
 there p q a units k t o b entries on size later short same made hold =
     let period : length q + 1 + (t - k) ≡ t + 1 = omega (arith, size, later) in
     units_there p q a units (t - k) b entries made (omega (arith, later)) (omega (arith, period, short)) (rw period (belief_at p q o (t + 1) b on (omega (arith, size, later)) (omega (arith, short)) same)) hold
@@ -31,6 +31,10 @@ loop-t-init c = record {
 pub leave_units-requires-clause-cells : goal.leave_units-requires-clause-cells
 leave_units-requires-clause-cells c =
     cells_at c.args.sc.now (c.args.k + 1) c.loop-t.t c.loop-t.rows c.index-rows-t.result c.loop-t.invariant.cells c.loop-t.auto.t (omega (arith, c.loop-t-test.true, c.loop-t.auto.rows))
+
+pub row-requires-clause-made : goal.row-requires-clause-made
+row-requires-clause-made c some =
+    omega (arith, c.requires.made some, c.loop-t-test.true, c.loop-t.auto.rows, c.requires.size)
 
 pub leave_units-requires-clause-taken : goal.leave_units-requires-clause-taken
 leave_units-requires-clause-taken c =
