@@ -15,7 +15,7 @@ use Rattle.std.proofs.lemmas.List.{length-map}
 use Rattle.list_laws.proofs.Agreeing.{map_agree}
 use Rattle.longest_walk.proofs.Steps.{greatest_walks-suc, All-moves}
 use Rattle.longest_walk.specs.Near.{IsNear}
-use Rattle.edge_bound.specs.Moves.{greatest_moves, through_of, HasGains, EdgeIsByMoves}
+use Rattle.edge_bound.specs.Moves.{greatest_moves, edge_and_later, through_of, HasGains, EdgeIsByMoves}
 
 pub sum_moves-cons : (r : ℕ → ℕ → ℕ → ℕ) (t a b : ℕ) (y : List ℕ) → sum_moves r t a (b ∷ y) ≡ r t a b + sum_moves r (t + 1) b y
 unfolding sum_moves
@@ -50,7 +50,7 @@ module _ (p : Problem) (q : List ℕ) where
   -- the sums of a period by those of the next one
   pub sums_before : (t a : ℕ) → IsProblem p → t ≤ p.horizon → a < p.positions →
       greatest_moves p.moves (edge_reward_of p q) (p.horizon + 1 - t) t a ≡
-      greatest (map (λ b. edge_reward_of p q t a b + greatest_moves p.moves (edge_reward_of p q) (p.horizon - t) (t + 1) b) (moves_from p.moves a))
+      greatest (map (edge_and_later p q t a) (moves_from p.moves a))
   sums_before t a sound last here =
       let r = edge_reward_of p q in
       let at : a < length p.moves = omega (arith, here, sound.grid_positions) in

@@ -14,6 +14,10 @@ use Rattle.belief_update.specs.Found.{found_in}
 abbrev pub greatest_moves : List (List ℕ) → (ℕ → ℕ → ℕ → ℕ) → ℕ → ℕ → ℕ → ℕ
 greatest_moves rows r n t a = greatest (map (sum_moves r t a) (walks rows n a))
 
+-- the edge reward of a look from b in period t after one from a, and the greatest sum that follows it
+abbrev pub edge_and_later : Problem → List ℕ → ℕ → ℕ → ℕ → ℕ
+edge_and_later p q t a b = edge_reward_of p q t a b + greatest_moves p.moves (edge_reward_of p q) (p.horizon - t) (t + 1) b
+
 -- for each position that the searcher can be on in period t, n periods after the prefix, the reward of a look from there with
 -- no look between it and the prefix, and the greatest sum of edge rewards over the walks that go on from there
 abbrev pub HasGains : Problem → List ℕ → ℕ → List ℕ → Type 0

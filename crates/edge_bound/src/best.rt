@@ -1,6 +1,6 @@
 //! The reward of one look and the greatest sum of edge rewards from there on, by those of its moves.
 
-ghost use Rattle.std.specs.Prelude.{◌≡◌, ◌<◌, ◌≤◌, ◌+◌, ◌-◌, ◌*◌, ℕ, length, slice_index, Contains};
+ghost use Rattle.std.specs.Prelude.{◌≡◌, ◌<◌, ◌≤◌, ◌+◌, ◌-◌, ◌*◌, ℕ, length, max, slice_index, Contains};
 ghost use Rattle.sweep_table.specs.LookParts.{look_row};
 ghost use Rattle.search_grid.specs.Moves.{moves_from};
 ghost use Rattle.search_model.specs.Legal.{last_of};
@@ -12,14 +12,16 @@ ghost use Rattle.belief_update.specs.Onward.{IsOnward};
 ghost use Rattle.belief_update.specs.Flows.{IsOwn};
 ghost use Rattle.edge_bound.specs.After.{parts_after, loss_of};
 ghost use Rattle.belief_update.specs.Found.{found_of};
-ghost use Rattle.edge_bound.specs.Moves.{IsLater, HasGains, HasShares, greatest_moves};
+ghost use Rattle.edge_bound.specs.Moves.{IsLater, HasGains, HasShares, greatest_moves, edge_and_later};
 ghost use Rattle.edge_bound.specs.Units.{HasUnits, place_of};
 
 use crate::moves::{found_by, look_from};
 use crate::shares::{fill_shares, taken_by_shares};
 use crate::units::Units;
 use belief_update::Onward;
+use longest_walk::least_move;
 use search_model::{Path, Scenario};
+use sweep_table::LookPart;
 
 // The reward of a look at `b` in period `t` after one at `a`, and the greatest sum from there on, by both without the look at
 // `a` and what that one takes of the reward.
@@ -28,8 +30,7 @@ fn gain_less(sc: &Scenario, prefix: &Path, gain: u128, less: u128, t: u32, a: u8
     requires gain { gain ≡ reward_of sc.now prefix.now t b +
         greatest_moves sc.now.moves (edge_reward_of sc.now prefix.now) (sc.now.horizon - t) (t + 1) b }
     requires less { less ≡ loss_of sc.now prefix.now t a b }
-    ensures { result ≡ edge_reward_of sc.now prefix.now t a b +
-        greatest_moves sc.now.moves (edge_reward_of sc.now prefix.now) (sc.now.horizon - t) (t + 1) b }
+    ensures { result ≡ edge_and_later sc.now prefix.now t a b }
 {
     let _after = prefix;
     let _looks = (t, a, b);
@@ -54,8 +55,7 @@ fn sum_through(
     requires width { length gains.now ≡ sc.now.positions }
     requires gains { HasGains sc.now prefix.now t gains.now }
     requires less { less ≡ loss_of sc.now prefix.now t a b }
-    ensures { result ≡ edge_reward_of sc.now prefix.now t a b +
-        greatest_moves sc.now.moves (edge_reward_of sc.now prefix.now) (sc.now.horizon - t) (t + 1) b }
+    ensures { result ≡ edge_and_later sc.now prefix.now t a b }
 {
     let gain = gains[usize::from(b)];
     gain_less(sc, prefix, gain, less, t, a, b)
@@ -107,6 +107,70 @@ pub fn taken_own(
     sc.recall_sound();
     let unit = units.at(place, b);
     share * u128::from(unit)
+}
+
+// The edge reward of a look from `b` in period `t` after one from `a`, and the greatest sum from there on, by what the look from
+// `a` finds in each cell of its row.
+fn sum_by_row(
+    sc: &Scenario,
+    prefix: &Path,
+    units: &Units,
+    shares: &[u128],
+    row: &[LookPart],
+    gains: &[u128],
+    t: u32,
+    a: u8,
+    b: u8,
+) -> u128
+    requires period { IsLater sc.now prefix.now t }
+    requires near { IsNear sc.now.moves (t - 1 - length prefix.now) (last_of sc.now.start prefix.now) a }
+    requires to { b < sc.now.positions }
+    requires step { Contains (moves_from sc.now.moves a) b }
+    requires units { HasUnits sc.now units.now }
+    requires shares { HasShares sc.now prefix.now t a (parts_after sc.now prefix.now t) shares.now }
+    requires room { length shares.now ≡ sc.now.cells }
+    requires row { row.now ≡ look_row sc.now.sweep (t - 1) a }
+    requires width { length gains.now ≡ sc.now.positions }
+    requires gains { HasGains sc.now prefix.now t gains.now }
+    ensures { result ≡ edge_and_later sc.now prefix.now t a b }
+{
+    let less = taken_by_shares(sc, prefix, units, shares, row, t, a, b);
+    sum_through(sc, prefix, gains, less, t, a, b)
+}
+
+// The greater of that and a number, which is no less than the same by way of `top`. It is no more than without the look from `a`,
+// so where the number is no less than that, nothing is computed.
+fn better_by_row(
+    sc: &Scenario,
+    prefix: &Path,
+    units: &Units,
+    shares: &[u128],
+    row: &[LookPart],
+    gains: &[u128],
+    top: u8,
+    best: u128,
+    t: u32,
+    a: u8,
+    b: u8,
+) -> u128
+    requires period { IsLater sc.now prefix.now t }
+    requires near { IsNear sc.now.moves (t - 1 - length prefix.now) (last_of sc.now.start prefix.now) a }
+    requires to { b < sc.now.positions }
+    requires step { Contains (moves_from sc.now.moves a) b }
+    requires units { HasUnits sc.now units.now }
+    requires shares { HasShares sc.now prefix.now t a (parts_after sc.now prefix.now t) shares.now }
+    requires room { length shares.now ≡ sc.now.cells }
+    requires row { row.now ≡ look_row sc.now.sweep (t - 1) a }
+    requires width { length gains.now ≡ sc.now.positions }
+    requires gains { HasGains sc.now prefix.now t gains.now }
+    requires top { edge_and_later sc.now prefix.now t a top ≤ best }
+    ensures { result ≡ max (edge_and_later sc.now prefix.now t a b) best }
+{
+    sc.recall_sound();
+    if b == top || gains[usize::from(b)] <= best {
+        return best;
+    }
+    sum_by_row(sc, prefix, units, shares, row, gains, t, a, b).max(best)
 }
 
 // The reward of a look from position `a` in the period before `t` with no look between it and the prefix, and the greatest
@@ -174,11 +238,11 @@ fn best_by_row(
     let moves = sc.grid().moves(a);
     let look = look_from(sc, t - 1, a);
     let found = fill_shares(shares, sc, prefix, onward, look.parts(), parts, t, a);
-    let mut best = 0;
+    let row = look.parts();
+    let top = least_move(gains, 0, moves);
+    let mut best = sum_by_row(sc, prefix, units, shares, row, gains, t, a, top);
     for b in moves {
-        let less = taken_by_shares(sc, prefix, units, shares, look.parts(), t, a, *b);
-        let through = sum_through(sc, prefix, gains, less, t, a, *b);
-        best = through.max(best);
+        best = better_by_row(sc, prefix, units, shares, row, gains, top, best, t, a, *b);
     }
     gain_before(sc, prefix, found, best, t, a)
 }

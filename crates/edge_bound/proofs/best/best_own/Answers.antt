@@ -1,7 +1,6 @@
-use Rattle.std.proofs.Common.{◌≡◌, ◌+◌, ◌-◌, ℕ, sym, ◌∙◌, arith}
+use Rattle.std.proofs.Common.{◌≡◌, ℕ, sym, ◌∙◌, arith}
 use Rattle.search_grid.specs.Moves.{moves_from}
-use Rattle.search_model.specs.Edge.{edge_reward_of}
-use Rattle.edge_bound.specs.Moves.{greatest_moves}
+use Rattle.edge_bound.specs.Moves.{edge_and_later}
 use Rattle.search_model.proofs.Totals.{whole_weight-fits}
 use Rattle.longest_walk.proofs.RowSteps.{best_more, best_all}
 use Rattle.edge_bound.proofs.Fitting.{found_parts-within}
@@ -29,7 +28,7 @@ sum_through-sum-requires-clause-step c =
 
 pub loop-b-preserved : goal.loop-b-preserved
 loop-b-preserved c =
-    let f : ℕ → ℕ = λ b. edge_reward_of c.args.sc.now c.args.prefix.now c.args.t c.args.a b + greatest_moves c.args.sc.now.moves (edge_reward_of c.args.sc.now c.args.prefix.now) (c.args.sc.now.horizon - c.args.t) (c.args.t + 1) b in
+    let f : ℕ → ℕ = edge_and_later c.args.sc.now c.args.prefix.now c.args.t c.args.a in
     rw (c.max-best.ensures, c.sum_through-sum.ensures)
     (best_more f c.moves-moves.result.now c.loop-b.b-index c.loop-b.best _ c.loop-b-test.true c.loop-b.invariant)
 
@@ -37,7 +36,7 @@ pub gain_before-requires-clause-best : goal.gain_before-requires-clause-best
 gain_before-requires-clause-best c =
     let p = c.args.sc.now in
     let q = c.args.prefix.now in
-    let f : ℕ → ℕ = λ b. edge_reward_of p q c.args.t c.args.a b + greatest_moves p.moves (edge_reward_of p q) (p.horizon - c.args.t) (c.args.t + 1) b in
+    let f : ℕ → ℕ = edge_and_later p q c.args.t c.args.a in
     let moves : c.moves-moves.result.now ≡ moves_from p.moves c.args.a = rw (← c.grid.ensures.value) c.moves-moves.ensures.value in
     let all = best_all f c.moves-moves.result.now c.loop-b.b-index c.loop-b.best _ c.loop-b-test.false c.loop-b.invariant in
     rw moves at all
