@@ -1,14 +1,20 @@
 -- What the second of two looks finds of masses in the period of the first one, and what the first one takes of that.
-use Rattle.std.proofs.Common.{ℕ, ◌+◌, ◌*◌, ◌-◌, ◌≤◌, ◌≡◌, List, length, sym, ap, ◌∙◌, arith, sum_by}
+use Rattle.std.proofs.Common.{ℕ, ◌+◌, ◌*◌, ◌-◌, ◌<◌, ◌≤◌, ◌≡◌, List, length, slice_index, sym, ap, ◌∙◌, arith, sum_by}
 use Rattle.period_rows.specs.declared.part.CellPart.{CellPart}
-use Rattle.sweep_table.specs.LookParts.{look_row}
+use Rattle.sweep_table.specs.LookParts.{look_row, factor_of}
 use Rattle.search_model.specs.Problem.{Problem, IsProblem}
 use Rattle.search_model.specs.Bounds.{reward_of}
 use Rattle.search_model.specs.Edge.{edge_reward_of}
-use Rattle.list_laws.proofs.Sums.{sum_by-same, sum_by-times, sum_by-plus, sum_by-exchange}
+use Rattle.search_model.proofs.LookRows.{found_in_cells}
+use Rattle.list_laws.proofs.Sums.{sum_by-same, sum_by-range-same, sum_by-times, sum_by-plus, sum_by-exchange}
 use Rattle.drift_chain.specs.DriftRows.{part_of}
 use Rattle.belief_update.specs.Masses.{mass_of, looks_to}
+use Rattle.belief_update.specs.Belief.{BeliefState}
+use Rattle.belief_update.specs.Trails.{row_at}
+use Rattle.belief_update.specs.Onward.{OnwardState, IsOnward}
 use Rattle.belief_update.specs.Found.{found_in, found_of}
+use Rattle.belief_update.proofs.BeliefSteps.{mass_at}
+use Rattle.belief_update.proofs.OnwardRows.{belief_at}
 use Rattle.edge_bound.specs.After.{mass_after_look, going_on, through, parts_after, loss_of}
 use Rattle.edge_bound.proofs.Discounts.{taken_of_mass, reward_parts, edge_reward_is}
 
@@ -16,6 +22,14 @@ module _ (p : Problem) (t b : ℕ) where
   -- of equal masses a look finds the same
   pub found-same : (f h : ℕ → ℕ) → ((d : ℕ) → f d ≡ h d) → found_of p t b f ≡ found_of p t b h
   found-same f h same = sum_by-same (found_in p f) (found_in p h) (look_row p.sweep t b) (λ e. ap (λ (m : ℕ). m * (p.sweep.denominator - e.part)) (same e.cell))
+
+  -- it does where they are equal in all cells
+  pub found-agree : IsProblem p → (f h : ℕ → ℕ) → ((d : ℕ) → d < p.cells → f d ≡ h d) → found_of p t b f ≡ found_of p t b h
+  found-agree sound f h same =
+      let left : ℕ → ℕ = λ d. p.sweep.denominator - factor_of p.sweep t b d in
+      sym (found_in_cells p sound t b f)
+      ∙ sum_by-range-same p.cells (λ d. f d * left d) (λ d. h d * left d) (λ d here. ap (λ (m : ℕ). m * left d) (same d here))
+      ∙ found_in_cells p sound t b h
 
   -- of the sum of two masses it finds the sum of what it finds of each
   pub found-plus : (f h : ℕ → ℕ) → found_of p t b (λ d. f d + h d) ≡ found_of p t b f + found_of p t b h
@@ -36,6 +50,12 @@ module _ (p : Problem) (t b : ℕ) where
       sum_by-same (found_in p (λ d. sum_by (λ x. f x d) xs)) (λ e. sum_by (λ x. f x e.cell * (g - e.part)) xs) (look_row p.sweep t b)
       (λ e. sym (sum_by-times (λ x. f x e.cell) (g - e.part) xs))
       ∙ sum_by-exchange (λ (e : CellPart) x. f x e.cell * (g - e.part)) (look_row p.sweep t b) xs
+
+-- of the masses that are kept of a period after a prefix it finds what it finds with no look between
+pub found_onward : (p : Problem) → IsProblem p → (q : List ℕ) (t b : ℕ) (o : OnwardState) (s : BeliefState) → IsOnward p q o → length q < t → t ≤ p.horizon → s ≡ row_at o.rows (t - 1) →
+    found_of p t b (slice_index s.masses) ≡ found_of p t b (mass_of p (looks_to t q))
+found_onward p sound q t b o s onward later last same =
+    found-agree p t b sound (slice_index s.masses) (mass_of p (looks_to t q)) (mass_at p (looks_to t q) s (belief_at p q o t s onward later last same))
 
 module _ (p : Problem) (q : List ℕ) (t b : ℕ) where
   -- what it finds of all that goes on from one cell

@@ -7,7 +7,7 @@ ghost use Rattle.belief_update.specs.Masses.{mass_of, looks_to};
 ghost use Rattle.belief_update.specs.Onward.{IsOnward};
 ghost use Rattle.belief_update.specs.Found.{found_of};
 
-use belief_update::Onward;
+use belief_update::{Onward, found};
 use search_model::{Path, Scenario};
 use sweep_table::Look;
 
@@ -34,25 +34,6 @@ pub fn look_from(sc: &Scenario, t: u32, a: u8) -> Look<'_>
     sc.sweep().look(t, a)
 }
 
-// What a look from `b` in period `t` finds with no look between it and the prefix, cell by cell of its row.
-#[inline(never)]
-fn found_by_row(sc: &Scenario, prefix: &Path, onward: &Onward, t: u32, b: u8) -> u128
-    requires later { length prefix.now < t }
-    requires last { t ≤ sc.now.horizon }
-    requires position { b < sc.now.positions }
-    requires onward { IsOnward sc.now prefix.now onward.now }
-    ensures { result ≡ found_of sc.now t b (mass_of sc.now (looks_to t prefix.now)) }
-{
-    let whole = sc.sweep().denominator();
-    let look = look_from(sc, t, b);
-    let mut sum = 0;
-    for entry in look.parts() {
-        let mass = mass_at(sc, prefix, onward, t, entry.cell);
-        sum += mass * u128::from(whole - entry.part);
-    }
-    sum
-}
-
 /// What a look from `b` in period `t` finds with no look between it and the prefix, in all cells that it covers.
 pub fn found_by(sc: &Scenario, prefix: &Path, onward: &Onward, t: u32, b: u8) -> u128
     requires later { length prefix.now < t }
@@ -61,13 +42,8 @@ pub fn found_by(sc: &Scenario, prefix: &Path, onward: &Onward, t: u32, b: u8) ->
     requires onward { IsOnward sc.now prefix.now onward.now }
     ensures { result ≡ found_of sc.now t b (mass_of sc.now (looks_to t prefix.now)) }
 {
-    match sc.sweep().own_part(b) {
-        Some(part) => {
-            let mass = mass_at(sc, prefix, onward, t, b);
-            mass * u128::from(sc.sweep().denominator() - part)
-        }
-        None => found_by_row(sc, prefix, onward, t, b),
-    }
+    sc.recall_sound();
+    found(sc, t, onward.at(t).masses(), b)
 }
 
 /// What the first look after a prefix finds from `b`, in all cells that it covers; times the parts of what is to come it
