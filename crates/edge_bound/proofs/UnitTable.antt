@@ -10,9 +10,10 @@ use Rattle.sweep_table.specs.LookParts.{look_row, factor_in, factor_of, misses}
 use Rattle.search_model.specs.Problem.{Problem, IsProblem}
 use Rattle.search_model.proofs.DriftSums.{steps_total}
 use Rattle.search_model.proofs.LookRows.{found_in_cells, sum_own}
+use Rattle.belief_update.proofs.FlowSteps.{steps_alike}
 use Rattle.belief_update.proofs.RowSteps.{part_in_more_same, part_in_more_other, part_in_more_le}
-use Rattle.list_laws.proofs.Sums.{sum_by-range-le, sum_by-times}
-use Rattle.belief_update.specs.Found.{found_in}
+use Rattle.list_laws.proofs.Sums.{sum_by-range-le, sum_by-range-part, sum_by-times}
+use Rattle.belief_update.specs.Found.{found_in, found_of}
 use Rattle.edge_bound.specs.Found.{one_of}
 use Rattle.belief_update.specs.Flows.{IsOwn}
 use Rattle.edge_bound.specs.Units.{HasUnits, HasBlock, HasBlocks, IsSteady}
@@ -49,6 +50,11 @@ pub steady_one : (p : Problem) → IsSteady p → (t c b : ℕ) → 2 ≤ t → 
 steady_one p steady t c b first last here there =
     ap (λ (row : List CellPart). sum_by (found_in p (part_in row)) (look_row p.sweep t b)) (steady.steps t c first last here)
     ∙ ap (λ (row : List CellPart). sum_by (found_in p (part_of p.drift 1 c)) row) (steady.looks t b first last there)
+
+-- where neither the drift nor the looks have rows of single periods, a problem is steady
+pub steady_unchanged : (p : Problem) → p.drift.changes ≡ [] → p.sweep.changes ≡ [] → IsSteady p
+unfolding look_row
+steady_unchanged p steps looks = record { steps = λ t c first last here. steps_alike p.drift steps (t - 1) 1 c; looks = λ t b first last here. rw looks refl }
 
 -- Places of a row of cells.
 

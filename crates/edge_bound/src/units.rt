@@ -63,6 +63,9 @@ fn has_second_looks(sc: &Scenario, t: u32) -> bool
 pub fn is_steady(sc: &Scenario) -> bool
     ensures { IsTrue result → IsSteady sc.now }
 {
+    if !sc.drift().may_change() && !sc.sweep().may_change() {
+        return true;
+    }
     for t in 1..sc.horizon() {
         if !has_first_steps(sc, t) || !has_second_looks(sc, t + 1) {
             return false;
