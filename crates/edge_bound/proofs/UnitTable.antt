@@ -17,6 +17,7 @@ use Rattle.belief_update.specs.Found.{found_in, found_of}
 use Rattle.edge_bound.specs.Found.{one_of}
 use Rattle.belief_update.specs.Flows.{IsOwn}
 use Rattle.edge_bound.specs.Units.{HasUnits, HasBlock, HasBlocks, IsSteady}
+use Rattle.edge_bound.proofs.Through.{found-agree}
 
 -- What a look finds of a unit.
 
@@ -30,6 +31,15 @@ one-within p sound t c b here =
     let whole : sum_by (λ d. part d * g) all ≡ p.drift.denominator * g = sum_by-times part g all ∙ ap (λ (s : ℕ). s * g) (steps_total p sound (t - 1) c here) in
     let most = mul-le _ _ _ _ sound.drift.denominator.1 sound.sweep.denominator.1 in
     omega (arith, found_in_cells p sound t b part, each, whole, most)
+
+-- a part of a step is within the denominator
+pub part-within : (p : Problem) → IsProblem p → (t c d : ℕ) → c < p.cells → d < p.cells → part_of p.drift t c d ≤ p.drift.denominator
+part-within p sound t c d from to = omega (arith, sum_by-range-part p.cells (part_of p.drift t c) d to, steps_total p sound t c from)
+
+-- of what comes to each cell of the unit a look finds that
+pub one_gone : (p : Problem) → IsProblem p → (t c b : ℕ) (gone : List ℕ) → ((d : ℕ) → d < p.cells → slice_index gone d ≡ part_of p.drift (t - 1) c d) →
+    found_of p t b (slice_index gone) ≡ one_of p t c b
+one_gone p sound t c b gone is = found-agree p t b sound (slice_index gone) (part_of p.drift (t - 1) c) is
 
 -- the factor of a look in its own cell, where it covers that one alone
 own_factor : (p : Problem) (t b part : ℕ) → look_row p.sweep t b ≡ misses b part ∷ [] → factor_of p.sweep t b b ≡ part

@@ -20,4 +20,4 @@ pub use moves::{found_by, look_from, mass_at};
 pub use rows::fill_rewards;
 pub use shares::{fill_shares, taken_by_shares};
 pub use tables::EdgeTables;
-pub use units::{Units, has_own_looks, is_steady};
+pub use units::{Units, fill_found, has_own_looks, is_steady};

@@ -1,13 +1,15 @@
 //! What looks find of units of mass, each of which was in one cell a period before.
 
-ghost use Rattle.std.specs.Prelude.{◌≡◌, ◌<◌, ◌≤◌, ◌+◌, ◌-◌, ◌*◌, ℕ, length, drop, slice_index, IsTrue, IfOk};
+ghost use Rattle.std.specs.Prelude.{◌≡◌, ◌<◌, ◌≤◌, ◌+◌, ◌-◌, ◌*◌, ◌^◌, ℕ, length, drop, slice_index, IsTrue, IfOk};
+ghost use Rattle.drift_chain.specs.DriftRows.{part_of};
 ghost use Rattle.sweep_table.specs.LookParts.{look_row, factor_of};
+ghost use Rattle.belief_update.specs.Found.{found_of};
 ghost use Rattle.edge_bound.specs.Found.{one_of};
 ghost use Rattle.belief_update.specs.Flows.{IsOwn};
 ghost use Rattle.edge_bound.specs.Units.{HasBlock, HasBlocks, IsSteady};
 
 use crate::moves::look_from;
-use belief_update::has_first_steps;
+use belief_update::{found, has_first_steps, spread};
 use exact_parts::NoMemory;
 use search_model::Scenario;
 use std::alloc::Global;
@@ -109,37 +111,58 @@ fn left_own(sc: &Scenario, t: u32, b: u8) -> u32
     sc.sweep().denominator() - sc.sweep().factor(t, b, b)
 }
 
-// What a look from `b` in period `t` finds of a unit that was in cell `c` a period before.
-fn found_of_one(sc: &Scenario, t: u32, c: u8, b: u8) -> u64
+// Writes what comes to each cell in period `t` of a unit that was in cell `c` a period before, in parts of a drift.
+fn go_once(gone: &mut [u128], sc: &Scenario, t: u32, c: u8)
     requires first { 2 ≤ t }
     requires last { t ≤ sc.now.horizon }
     requires from { c < sc.now.cells }
-    requires to { b < sc.now.positions }
-    ensures { result ≡ one_of sc.now t c b }
+    requires room { length gone.old ≡ sc.now.cells }
+    ensures each { (d : ℕ) → d < sc.now.cells → slice_index gone.new d ≡ part_of sc.now.drift (t - 1) c d }
+    ensures room { length gone.new ≡ length gone.old }
 {
-    let whole = sc.sweep().denominator();
-    let look = look_from(sc, t, b);
-    let mut sum = 0;
-    for entry in look.parts() {
-        let part = sc.drift().part(t - 1, c, entry.cell);
-        sum += u64::from(part) * u64::from(whole - entry.part);
-    }
-    sum
+    gone.fill(0);
+    spread(gone, sc.drift().row(t - 1, c), 1);
 }
 
-// Writes the numbers of one cell in a period, position by position, from `here` on.
-fn fill_cell_by_looks(units: &mut [u64], sc: &Scenario, here: usize, t: u32, c: u8)
+/// Writes what a look from each position in period `t` finds of masses, from `here` on.
+pub fn fill_found(numbers: &mut [u64], sc: &Scenario, masses: &[u128], here: usize, t: u32)
+    requires first { 1 ≤ t }
+    requires last { t ≤ sc.now.horizon }
+    requires cells { length masses.now ≡ sc.now.cells }
+    requires fits { (b : ℕ) → b < sc.now.positions → found_of sc.now t b (slice_index masses.now) < 2 ^ 64 }
+    requires room { here + sc.now.positions ≤ length numbers.old }
+    ensures size { length numbers.new ≡ length numbers.old }
+    ensures each { (b : ℕ) → b < sc.now.positions →
+        slice_index numbers.new (here + b) ≡ found_of sc.now t b (slice_index masses.now) }
+    ensures earlier { (i : ℕ) → i < here → slice_index numbers.new i ≡ slice_index numbers.old i }
+{
+    for b in 0..sc.positions() {
+        numbers[here + usize::from(b)] = found(sc, t, masses, b) as u64;
+    }
+}
+
+// Writes the numbers of one cell in a period, position by position, from `here` on; `gone` is room for a row of cells.
+fn fill_cell_by_looks(
+    units: &mut [u64],
+    gone: &mut [u128],
+    sc: &Scenario,
+    here: usize,
+    t: u32,
+    c: u8,
+)
     requires first { 2 ≤ t }
     requires last { t ≤ sc.now.horizon }
     requires cell { c < sc.now.cells }
     requires room { here + sc.now.positions ≤ length units.old }
+    requires gone { length gone.old ≡ sc.now.cells }
     ensures size { length units.new ≡ length units.old }
     ensures each { (b : ℕ) → b < sc.now.positions → slice_index units.new (here + b) ≡ one_of sc.now t c b }
     ensures earlier { (i : ℕ) → i < here → slice_index units.new i ≡ slice_index units.old i }
+    ensures gone { length gone.new ≡ length gone.old }
 {
-    for b in 0..sc.positions() {
-        units[here + usize::from(b)] = found_of_one(sc, t, c, b);
-    }
+    sc.recall_sound();
+    go_once(gone, sc, t, c);
+    fill_found(units, sc, gone, here, t);
 }
 
 // Writes zeros for all positions from `here` on.
@@ -191,49 +214,71 @@ fn fill_cell_by_entries(units: &mut [u64], sc: &Scenario, here: usize, t: u32, c
     add_entries(units, sc, here, t, c);
 }
 
-// Writes the numbers of one cell in a period from `here` on; `own` may say that all looks cover their own cells alone.
-fn fill_cell(units: &mut [u64], sc: &Scenario, own: bool, here: usize, t: u32, c: u8)
+// Writes the numbers of one cell in a period from `here` on; `own` may say that all looks cover their own cells alone, and `gone`
+// is room for a row of cells.
+fn fill_cell(
+    units: &mut [u64],
+    gone: &mut [u128],
+    sc: &Scenario,
+    own: bool,
+    here: usize,
+    t: u32,
+    c: u8,
+)
     requires own { IsTrue own → (b : ℕ) → b < sc.now.positions → IsOwn sc.now b }
     requires first { 2 ≤ t }
     requires last { t ≤ sc.now.horizon }
     requires cell { c < sc.now.cells }
     requires room { here + sc.now.positions ≤ length units.old }
+    requires gone { length gone.old ≡ sc.now.cells }
     ensures size { length units.new ≡ length units.old }
     ensures each { (b : ℕ) → b < sc.now.positions → slice_index units.new (here + b) ≡ one_of sc.now t c b }
     ensures earlier { (i : ℕ) → i < here → slice_index units.new i ≡ slice_index units.old i }
+    ensures gone { length gone.new ≡ length gone.old }
 {
     if own {
         fill_cell_by_entries(units, sc, here, t, c)
     } else {
-        fill_cell_by_looks(units, sc, here, t, c)
+        fill_cell_by_looks(units, gone, sc, here, t, c)
     }
 }
 
 // Writes the numbers of a period, cell by cell, from `here` on.
-fn fill_block(units: &mut [u64], sc: &Scenario, here: usize, t: u32)
+fn fill_block(units: &mut [u64], gone: &mut [u128], sc: &Scenario, here: usize, t: u32)
     requires first { 2 ≤ t }
     requires last { t ≤ sc.now.horizon }
     requires room { here + sc.now.cells * sc.now.positions ≤ length units.old }
+    requires gone { length gone.old ≡ sc.now.cells }
     ensures size { length units.new ≡ length units.old }
     ensures block { HasBlock sc.now t units.new here }
     ensures earlier { (i : ℕ) → i < here → slice_index units.new i ≡ slice_index units.old i }
+    ensures gone { length gone.new ≡ length gone.old }
 {
     let positions = usize::from(sc.positions());
     let own = has_own_looks(sc);
     for c in 0..sc.cells() {
-        fill_cell(units, sc, own, here + usize::from(c) * positions, t, c);
+        fill_cell(
+            units,
+            gone,
+            sc,
+            own,
+            here + usize::from(c) * positions,
+            t,
+            c,
+        );
     }
 }
 
 // Writes the numbers of so many periods from the second on.
-fn fill_blocks(units: &mut [u64], sc: &Scenario, periods: u32)
+fn fill_blocks(units: &mut [u64], gone: &mut [u128], sc: &Scenario, periods: u32)
     requires last { periods < sc.now.horizon }
     requires room { length units.old ≡ periods * (sc.now.cells * sc.now.positions) }
+    requires gone { length gone.old ≡ sc.now.cells }
     ensures { HasBlocks sc.now periods units.new }
 {
     let block = usize::from(sc.cells()) * usize::from(sc.positions());
     for n in 0..periods {
-        fill_block(units, sc, n as usize * block, n + 2);
+        fill_block(units, gone, sc, n as usize * block, n + 2);
     }
 }
 
@@ -243,8 +288,9 @@ fn blocks_of(alloc: Global, sc: &Scenario, periods: u32) -> Result<Vec<u64>, NoM
     ensures { IfOk result (λ units. HasBlocks sc.now periods units.items) }
 {
     let block = usize::from(sc.cells()) * usize::from(sc.positions());
+    let mut gone = vec![in alloc; 0; usize::from(sc.cells())]?;
     let mut units = vec![in alloc; 0; periods as usize * block]?;
-    fill_blocks(&mut units, sc, periods);
+    fill_blocks(&mut units, &mut gone, sc, periods);
     Ok(units)
 }
 
