@@ -18,11 +18,12 @@ use Rattle.list_laws.proofs.Sums.{sum_by-range-le, sum_by-range-part, sum_by-tim
 use Rattle.belief_update.specs.Masses.{mass_of, looks_to}
 use Rattle.belief_update.specs.Found.{found_of}
 use Rattle.edge_bound.specs.Found.{one_of}
-use Rattle.edge_bound.specs.After.{going_on, parts_after}
+use Rattle.edge_bound.specs.After.{mass_after_look, going_on, through, parts_after, loss_of}
 use Rattle.edge_bound.proofs.Discounts.{reward_parts, taken_of_mass, mass_comes}
+use Rattle.edge_bound.proofs.Through.{found-same, found-plus, found-times, taken_of_found}
 use Rattle.edge_bound.proofs.Fitting.{greatest-within, found_parts-within, edge_reward-within}
 use Rattle.two_look_bound.specs.Pairs.{two_reward_of, sum_pairs, second_sum, two_sum, greatest_pairs, pair_sum, two_and_rest, IsMiddle}
-use Rattle.two_look_bound.specs.Taken.{taken_to, two_of, parts_after_two, skip_of, joint_of}
+use Rattle.two_look_bound.specs.Taken.{taken_to, two_of, parts_after_two, less_of, skip_of, joint_of}
 use Rattle.two_look_bound.proofs.TwoLooks.{found_gone, left_and_found, skip_cells, two_looks}
 
 -- a part of a drift's step is within the denominator
@@ -86,7 +87,7 @@ module _ (p : Problem) (sound : IsProblem p) (q : List ℕ) (s : ℕ) (middle : 
     taken-mass e = omega (arith, taken_of_mass p q s middle.later sound a e)
 
     -- so what the next look finds of it fits
-    pub less-within : (b : ℕ) → found_of p s b (taken_to p q s a) * parts_after_two p q s ≤ whole_weight p
+    pub less-within : (b : ℕ) → less_of p q s a b ≤ whole_weight p
     less-within b =
         let all = range_with_len 0 p.cells in
         let g = p.sweep.denominator in
@@ -100,6 +101,18 @@ module _ (p : Problem) (sound : IsProblem p) (q : List ℕ) (s : ℕ) (middle : 
         let most = rw (here, parts_one_more) at (found_parts-within p sound q (s + 1) b (omega (arith, middle.later)) middle.last) in
         omega (arith, scaled, most)
 
+    -- times the parts of a drift and of a look that is what the look before takes of the reward of the next one
+    pub less_loss : (b : ℕ) → less_of p q s a b * (p.drift.denominator * p.sweep.denominator) ≡ loss_of p q s a b
+    less_loss b =
+        let g = p.sweep.denominator in
+        let left : ℕ → ℕ = mass_after_look p q s a in
+        let taken : ℕ → ℕ = taken_to p q s a in
+        let mass : ℕ → ℕ = mass_of p (looks_to s q) in
+        let each = found-same p s b (λ e. left e + taken e) (λ e. mass e * g) (λ e. taken_of_mass p q s middle.later sound a e) in
+        let found : found_of p s b taken ≡ found_of p (s - 1) a (through p q s b) =
+        omega (arith, found-plus p s b left taken, each, found-times p s b mass g, taken_of_found p q s b sound middle.later a) in
+        rw (found, parts_before) (omega arith)
+
     module _ (c : ℕ) where
       -- what the look and the one two periods later would find is within the reward of that one
       pub skip-within : skip_of p q s a c ≤ whole_weight p
@@ -112,7 +125,7 @@ module _ (p : Problem) (sound : IsProblem p) (q : List ℕ) (s : ℕ) (middle : 
           let each = sum_by-range-le p.cells (λ e. taken_to p q s a e * one e) (λ e. m e * one e * g) (λ e _. let times = mul-le-mul_right (one e) (taken-mass e) in omega (arith, times)) in
           let sums = sum_by-times (λ e. m e * one e) g all in
           let comes : found_of p (s + 1) c (mass_of p (looks_to (s + 1) q)) ≡ sum_by (λ e. m e * one e) all =
-          Rattle.edge_bound.proofs.Through.found-same p (s + 1) c _ (λ d. sum_by (λ e. m e * part_of p.drift s e d) all)
+          found-same p (s + 1) c _ (λ d. sum_by (λ e. m e * part_of p.drift s e d) all)
           (λ d. let here : s + 1 - 1 ≡ s = omega arith in rw here at (mass_comes p q (s + 1) (omega (arith, middle.later)) d))
           ∙ found_gone p sound s 0 c m in
           let reward = rw parts_one_more at (reward_parts p sound q (s + 1) c (omega (arith, middle.later)) middle.last) in

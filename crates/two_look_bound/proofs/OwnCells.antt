@@ -1,24 +1,19 @@
 -- What looks take of each other where they cover their own cells alone.
-use Rattle.std.proofs.Common.{ℕ, ◌+◌, ◌*◌, ◌-◌, ◌≤◌, ◌≡◌, List, length, refl, ap, arith}
-use Rattle.std.proofs.Math.Nat.{one-le-mul}
+use Rattle.std.proofs.Common.{ℕ, ◌+◌, ◌*◌, ◌-◌, ◌≤◌, ◌≡◌, List, refl, ◌∙◌, arith}
 use Rattle.exact_parts.proofs.Widths.{le-times}
 use Rattle.drift_chain.specs.DriftRows.{part_of}
 use Rattle.search_model.specs.Problem.{Problem, IsProblem}
 use Rattle.search_model.specs.Tracks.{whole_weight}
-use Rattle.search_model.specs.Bounds.{reward_of}
-use Rattle.search_model.specs.Edge.{edge_reward_of}
 use Rattle.search_model.proofs.LookRows.{sum_own}
 use Rattle.belief_update.specs.Flows.{IsOwn}
 use Rattle.belief_update.specs.Masses.{mass_of, looks_to}
 use Rattle.belief_update.specs.Found.{found_in, found_of}
 use Rattle.edge_bound.specs.Found.{one_of}
-use Rattle.edge_bound.specs.After.{going_on, parts_after, loss_of}
-use Rattle.edge_bound.proofs.CellShares.{own_taken}
-use Rattle.edge_bound.proofs.Fitting.{taken-within}
-use Rattle.edge_bound.proofs.Through.{taken_of_reward}
+use Rattle.edge_bound.specs.After.{going_on}
+use Rattle.edge_bound.proofs.Through.{found-same, found-times}
 use Rattle.two_look_bound.specs.Pairs.{IsMiddle}
-use Rattle.two_look_bound.specs.Taken.{two_of, taken_to, parts_after_two, share_of, skip_of, joint_of}
-use Rattle.two_look_bound.proofs.Fitting.{parts_before, before-within}
+use Rattle.two_look_bound.specs.Taken.{two_of, taken_to, share_of, less_of, skip_of, joint_of}
+use Rattle.two_look_bound.proofs.Fitting.{before-within}
 
 -- what a look that covers its own cell alone finds of masses
 found_own : (p : Problem) → IsProblem p → (t a : ℕ) (owned : IsOwn p a) (f : ℕ → ℕ) → found_of p t a f ≡ f a * (p.sweep.denominator - owned.0)
@@ -33,37 +28,23 @@ module _ (p : Problem) (sound : IsProblem p) (q : List ℕ) (s a : ℕ) (owned :
       let both = found_own p sound (s - 1) a owned (λ d. m d * two_of p s d c) in
       rw (found, both) (omega arith)
 
-  -- and with the next two
-  pub joint_owned : (b c : ℕ) → IsOwn p b → share_of p q s a * one_of p s a b * one_of p (s + 1) b c ≡ joint_of p q s a b c
-  joint_owned b c other =
+  -- and with the next one
+  pub less_owned : (b : ℕ) → share_of p q s a * one_of p s a b ≡ less_of p q s a b
+  less_owned b =
+      let left = p.sweep.denominator - owned.0 in
       let m : ℕ → ℕ = mass_of p (looks_to (s - 1) q) in
-      let found = found_own p sound (s - 1) a owned m in
-      let one = found_own p sound s b other (part_of p.drift (s - 1) a) in
-      let taken : taken_to p q s a b ≡ m a * part_of p.drift (s - 1) a b * (p.sweep.denominator - owned.0) = found_own p sound (s - 1) a owned (going_on p q s b) in
-      let all : found_of p s b (λ e. taken_to p q s a e * one_of p (s + 1) e c) ≡ taken_to p q s a b * one_of p (s + 1) b c * (p.sweep.denominator - other.0) =
-      found_own p sound s b other (λ e. taken_to p q s a e * one_of p (s + 1) e c) in
-      rw (all, taken, found, one) (omega arith)
+      let part : ℕ → ℕ = part_of p.drift (s - 1) a in
+      let taken : found_of p s b (taken_to p q s a) ≡ one_of p s a b * (m a * left) =
+      found-same p s b (taken_to p q s a) (λ e. part e * (m a * left)) (λ e. found_own p sound (s - 1) a owned (going_on p q s e) ∙ omega arith)
+      ∙ found-times p s b part (m a * left) in
+      rw (found_own p sound (s - 1) a owned m, taken) (omega arith)
 
-  module _ (middle : IsMiddle p q s) (b : ℕ) where
-    -- times the parts of a drift and of a look that is what it takes of the reward of the next one
-    pub loss_owned : share_of p q s a * one_of p s a b * (p.drift.denominator * p.sweep.denominator) ≡ loss_of p q s a b
-    loss_owned =
-        let found = found_of p (s - 1) a (mass_of p (looks_to (s - 1) q)) in
-        let whole : found * parts_after p q s * one_of p s a b ≡ loss_of p q s a b = own_taken p q s b a sound owned in
-        let parts : found * parts_after p q s * one_of p s a b ≡ found * (parts_after_two p q s * (p.drift.denominator * p.sweep.denominator)) * one_of p s a b = ap (λ (n : ℕ). found * n * one_of p s a b) (parts_before p sound q s middle) in
-        omega (arith, whole, parts)
-
-    pub loss_owned-within : share_of p q s a * one_of p s a b * (p.drift.denominator * p.sweep.denominator) ≤ whole_weight p
-    loss_owned-within = omega (arith, loss_owned, taken-within p sound q s a b middle.later (omega (arith, middle.last)))
-
-    pub less_owned-within : share_of p q s a * one_of p s a b ≤ whole_weight p
-    less_owned-within =
-        let some : 1 ≤ p.drift.denominator * p.sweep.denominator = one-le-mul (omega (arith, sound.drift.denominator)) (omega (arith, sound.sweep.denominator)) in
-        omega (arith, le-times (share_of p q s a * one_of p s a b) (p.drift.denominator * p.sweep.denominator) some, loss_owned-within)
-
-    -- the edge reward of the next look
-    pub edge_owned : edge_reward_of p q s a b + share_of p q s a * one_of p s a b * (p.drift.denominator * p.sweep.denominator) ≡ reward_of p q s b
-    edge_owned = omega (arith, loss_owned, taken_of_reward p q s b sound middle.later (omega (arith, middle.last)) a)
+-- where the second of three looks covers its own cell alone, what they would find one after the other
+pub joint_owned : (p : Problem) → IsProblem p → (q : List ℕ) (s a b c : ℕ) → IsOwn p b → less_of p q s a b * one_of p (s + 1) b c ≡ joint_of p q s a b c
+joint_owned p sound q s a b c owned =
+    let found = found_own p sound s b owned (taken_to p q s a) in
+    let all = found_own p sound s b owned (λ e. taken_to p q s a e * one_of p (s + 1) e c) in
+    rw (found, all) (omega arith)
 
 -- what it finds, times the denominator of looks, fits
 pub share_whole-within : (p : Problem) → IsProblem p → (q : List ℕ) (s a : ℕ) → IsMiddle p q s → share_of p q s a * p.sweep.denominator ≤ whole_weight p

@@ -1,5 +1,5 @@
 -- The greatest sums over pairs of positions, by way of a next move.
-use Rattle.std.proofs.Common.{ℕ, suc, ◌+◌, ◌*◌, ◌-◌, ◌<◌, ◌≤◌, ◌≡◌, ◌⊎◌, List, ◌∷◌, map, length, slice_index, set, get_or-set_same, get_or-set_other, inl, inr, refl, sym, ap, ◌∙◌, subst, arith, Contains}
+use Rattle.std.proofs.Common.{ℕ, suc, ◌+◌, ◌*◌, ◌-◌, ◌<◌, ◌≤◌, ◌≡◌, ◌⊎◌, List, ◌∷◌, max, map, length, slice_index, set, get_or-set_same, get_or-set_other, inl, inr, refl, sym, ap, ◌∙◌, subst, arith, Contains}
 use Rattle.std.proofs.Math.Nat.{mul-le-mul_right}
 use Rattle.std.proofs.lemmas.Bool.{cases_lt, cases_eq}
 use Rattle.std.proofs.lemmas.List.{get_or_default}
@@ -10,8 +10,9 @@ use Rattle.search_model.specs.Legal.{IsLegal, walks, continuations, last_of, mov
 use Rattle.search_model.specs.Bounds.{reward_of, greatest}
 use Rattle.search_model.specs.Edge.{edge_reward_of}
 use Rattle.search_model.proofs.LegalLemmas.{last_within, move_within}
-use Rattle.search_model.proofs.Greatest.{greatest-one}
+use Rattle.search_model.proofs.Greatest.{greatest-one, greatest_above}
 use Rattle.list_laws.proofs.Agreeing.{map_agree}
+use Rattle.list_laws.proofs.Members.{Contains-map}
 use Rattle.longest_walk.proofs.Steps.{greatest_walks-suc}
 use Rattle.longest_walk.specs.Near.{IsNear}
 use Rattle.edge_bound.specs.Moves.{IsLater}
@@ -92,6 +93,10 @@ module _ (p : Problem) (q : List ℕ) where
 -- the greatest of what agrees on some moves
 pub greatest_same : (f g : ℕ → ℕ) (xs : List ℕ) → ((b : ℕ) → Contains xs b → f b ≡ g b) → greatest (map f xs) ≡ greatest (map g xs)
 greatest_same f g xs each = ap greatest (map_agree f g xs (All-weaker (Contains xs) (λ b. f b ≡ g b) each xs (All-contains_itself xs)))
+
+-- with one of the places before all of them, the greatest is the same
+pub best_begun : (f : ℕ → ℕ) (xs : List ℕ) (x : ℕ) → Contains xs x → max (f x) (greatest (map f xs)) ≡ greatest (map f xs)
+best_begun f xs x there = omega (arith, greatest_above (map f xs) (f x) (Contains-map f xs x there))
 
 -- the rows of two positions don't meet
 pub apart_rows : (positions a k b : ℕ) → b < positions → (k ≡ a → ⊥) → (k * positions + b < a * positions) ⊎ (a * positions + positions ≤ k * positions + b)

@@ -15,13 +15,13 @@ use Rattle.list_laws.proofs.Sums.{sum_by-range-suc}
 use Rattle.belief_update.specs.Found.{found_in, found_of}
 use Rattle.belief_update.specs.Masses.{mass_of, looks_to}
 use Rattle.edge_bound.specs.Found.{one_of}
-use Rattle.edge_bound.specs.After.{going_on, loss_of}
+use Rattle.edge_bound.specs.After.{going_on}
 use Rattle.edge_bound.specs.Moves.{HasShares}
 use Rattle.edge_bound.specs.Units.{UnitTable, HasUnits, unit_at}
 use Rattle.two_look_bound.specs.Pairs.{IsMiddle}
 use Rattle.two_look_bound.specs.Taken.{two_of, taken_to, parts_after_two, joint_of, HasLess, weighted_sum}
 use Rattle.two_look_bound.specs.Rooms.{HasTwos}
-use Rattle.two_look_bound.proofs.Fitting.{parts_before, taken_to-within}
+use Rattle.two_look_bound.proofs.Fitting.{taken_to-within}
 
 module _ (p : Problem) (u : UnitTable) (t b : ℕ) (row : List CellPart) (shares : List ℕ) (f h : ℕ → ℕ) (parts : ℕ)
     (each : (i : ℕ) → i < length row → slice_index shares i ≡ found_in p f (slice_index_or row i (misses 0 0)) * parts)
@@ -61,14 +61,6 @@ module _ (p : Problem) (sound : IsProblem p) (q : List ℕ) (s a b c : ℕ) (u :
   skip_sum middle twos is each =
       let numbers = look_cells p sound (s - 1) a (λ d. unit_at u s d c ≡ two_of p s d c) (λ d here. twos.each s d c (omega (arith, middle.later)) middle.last here there) in
       rw is (weighted_is p u s c (look_row p.sweep (s - 1) a) shares (mass_of p (looks_to (s - 1) q)) (λ d. two_of p s d c) (parts_after_two p q s) each numbers)
-
-  -- what the look before would find with this one, which times the parts of a drift and of a look is what it takes of the reward
-  pub less_sum : IsMiddle p q s → HasUnits p u → row ≡ look_row p.sweep (s - 1) a → HasShares p q s a (parts_after_two p q s) shares →
-      weighted_sum u s c row shares * (p.drift.denominator * p.sweep.denominator) ≡ loss_of p q s a c
-  less_sum middle units is each =
-      let numbers = look_cells p sound (s - 1) a (λ d. unit_at u s d c ≡ one_of p s d c) (λ d here. units.each s d c (omega (arith, middle.later)) (omega (arith, middle.last)) here there) in
-      let sum = weighted_is p u s c (look_row p.sweep (s - 1) a) shares (mass_of p (looks_to (s - 1) q)) (λ d. one_of p s d c) (parts_after_two p q s) each numbers in
-      rw (is, sum, parts_before p sound q s middle) (omega arith)
 
 -- What is taken of the mass of a cell, entry by entry.
 module _ (p : Problem) (q : List ℕ) (s a i : ℕ) (before row : List CellPart) (share : ℕ) (is : before ≡ look_row p.sweep (s - 1) a) (inside : i < length before)

@@ -49,6 +49,10 @@ skip_of p q s a c = found_of p (s - 1) a (λ d. mass_of p (looks_to (s - 1) q) d
 abbrev pub joint_of : Problem → List ℕ → ℕ → ℕ → ℕ → ℕ → ℕ
 joint_of p q s a b c = found_of p s b (λ e. taken_to p q s a e * one_of p (s + 1) e c) * parts_after_two p q s
 
+-- what looks from a and b would find one after the other
+abbrev pub less_of : Problem → List ℕ → ℕ → ℕ → ℕ → ℕ
+less_of p q s a b = found_of p s b (taken_to p q s a) * parts_after_two p q s
+
 -- for each entry of the row of a look from b in period s, what it would find of what the look from a takes there
 abbrev pub HasLess : Problem → List ℕ → ℕ → ℕ → ℕ → List ℕ → Type 0
 HasLess p q s a b less =

@@ -4,16 +4,14 @@ ghost use Rattle.std.specs.Prelude.{◌≡◌, ◌<◌, ◌≤◌, ◌+◌, ◌-
 ghost use Rattle.search_grid.specs.Moves.{moves_from};
 ghost use Rattle.search_model.specs.Legal.{last_of};
 ghost use Rattle.search_model.specs.Bounds.{reward_of};
-ghost use Rattle.search_model.specs.Edge.{edge_reward_of};
 ghost use Rattle.longest_walk.specs.Near.{IsNear, AreNear};
 ghost use Rattle.belief_update.specs.Flows.{IsOwn};
-ghost use Rattle.edge_bound.specs.Found.{one_of};
 ghost use Rattle.edge_bound.specs.Units.{HasUnits, place_of};
 ghost use Rattle.two_look_bound.specs.Pairs.{two_reward_of, greatest_pairs, pair_sum, edge_and_rest, two_and_rest, HasPairs, IsMiddle};
-ghost use Rattle.two_look_bound.specs.Taken.{share_of, skip_of, HasSkips, IsUnitRow};
+ghost use Rattle.two_look_bound.specs.Taken.{share_of, less_of, skip_of, HasSkips, IsUnitRow};
 ghost use Rattle.two_look_bound.specs.Rooms.{HasTwos};
 
-use crate::pairs::{gain_after, parts_of_step, put_at, with_edge};
+use crate::pairs::{edge_after, gain_after, parts_of_step, put_at, with_edge};
 use edge_bound::Units;
 use longest_walk::Near;
 use search_model::{Path, Scenario};
@@ -115,12 +113,11 @@ fn better_own(
     c: u8,
 ) -> u128
     requires middle { IsMiddle sc.now prefix.now s }
-    requires before { IsOwn sc.now a }
     requires own { IsOwn sc.now b }
     requires to { c < sc.now.positions }
     requires width { sc.now.positions ≤ length row.now }
     requires row { IsUnitRow sc.now (s + 1) b row.now }
-    requires less { less ≡ share_of sc.now prefix.now s a * one_of sc.now s a b }
+    requires less { less ≡ less_of sc.now prefix.now s a b }
     requires outer { outer ≡ skip_of sc.now prefix.now s a c }
     requires gain { gain ≡ pair_sum sc.now prefix.now s b c }
     ensures { result ≡ max (two_and_rest sc.now prefix.now s a b c) best }
@@ -147,7 +144,6 @@ fn best_own(
     b: u8,
 ) -> u128
     requires middle { IsMiddle sc.now prefix.now s }
-    requires before { IsOwn sc.now a }
     requires own { IsOwn sc.now b }
     requires near { IsNear sc.now.moves (s - 1 - length prefix.now) (last_of sc.now.start prefix.now) a }
     requires step { Contains (moves_from sc.now.moves a) b }
@@ -157,7 +153,7 @@ fn best_own(
     requires pairs { HasPairs sc.now prefix.now s pairs.now }
     requires width { length skips.now ≡ sc.now.positions }
     requires skips { HasSkips sc.now prefix.now s a skips.now }
-    requires less { less ≡ share_of sc.now prefix.now s a * one_of sc.now s a b }
+    requires less { less ≡ less_of sc.now prefix.now s a b }
     ensures { result ≡ greatest_pairs sc.now.moves (two_reward_of sc.now prefix.now) (sc.now.horizon - s) (s + 1) a b }
 {
     let moves = sc.grid().moves(b);
@@ -206,7 +202,7 @@ fn sum_own(
     ensures { result ≡ edge_and_rest sc.now prefix.now s a b }
 {
     let less = less_own(sc, prefix, units, share, place, s, a, b);
-    let edge = edge_own(sc, prefix, reward, less, step, s, a, b);
+    let edge = edge_after(sc, prefix, reward, less, step, s, a, b);
     let best = best_own(sc, prefix, units, pairs, skips, less, s, a, b);
     with_edge(sc, prefix, edge, best, s, a, b)
 }
@@ -229,38 +225,13 @@ fn less_own(
     requires units { HasUnits sc.now units.now }
     requires share { share ≡ share_of sc.now prefix.now s a }
     requires place { place ≡ place_of units.now s a 0 }
-    ensures { result ≡ share_of sc.now prefix.now s a * one_of sc.now s a b }
+    ensures { result ≡ less_of sc.now prefix.now s a b }
 {
     let _after = prefix;
     let _look = (s, a);
     sc.recall_sound();
     let unit = units.at(place, b);
     share * u128::from(unit)
-}
-
-// The edge reward of a look from `b` in period `s` after one from `a`, by its reward without that look, and what both would find;
-// `step` are the parts of a drift and of a look.
-fn edge_own(
-    sc: &Scenario,
-    prefix: &Path,
-    reward: u128,
-    less: u128,
-    step: u128,
-    s: u32,
-    a: u8,
-    b: u8,
-) -> u128
-    requires middle { IsMiddle sc.now prefix.now s }
-    requires own { IsOwn sc.now a }
-    requires reward { reward ≡ reward_of sc.now prefix.now s b }
-    requires less { less ≡ share_of sc.now prefix.now s a * one_of sc.now s a b }
-    requires step { step ≡ sc.now.drift.denominator * sc.now.sweep.denominator }
-    ensures { result ≡ edge_reward_of sc.now prefix.now s a b }
-{
-    let _after = prefix;
-    let _looks = (s, a, b);
-    sc.recall_sound();
-    reward - less * step
 }
 
 /// Writes, from `here` on, the edge rewards of looks in period `s` from the moves of `a`, each with the greatest sum that follows it, by

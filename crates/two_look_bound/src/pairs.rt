@@ -10,10 +10,12 @@ ghost use Rattle.longest_walk.specs.Near.{IsNear};
 ghost use Rattle.edge_bound.specs.Moves.{IsLater, HasShares};
 ghost use Rattle.edge_bound.specs.Units.{HasUnits};
 ghost use Rattle.two_look_bound.specs.Pairs.{two_reward_of, greatest_pairs, pair_sum, edge_and_rest, two_and_rest, HasPairs, IsMiddle};
-ghost use Rattle.two_look_bound.specs.Taken.{parts_after_two, skip_of, joint_of, HasTaken, HasLess, HasSkips};
+ghost use Rattle.two_look_bound.specs.Taken.{parts_after_two, less_of, skip_of, joint_of, HasTaken, HasLess};
+ghost use Rattle.two_look_bound.specs.Rooms.{HasTwos};
 
-use crate::taken::{fill_less, joint, weighted};
+use crate::taken::{fill_less, joint, skip};
 use edge_bound::{Units, look_from};
+use longest_walk::least_move;
 use search_model::{Path, Scenario};
 use sweep_table::LookPart;
 
@@ -59,17 +61,17 @@ pub(crate) fn put_at(sums: &mut [u128], here: usize, b: u8, sum: u128)
     sums[here + usize::from(b)] = sum;
 }
 
-// The greater of a number and the reward of a look from `c` after those from `a` and `b`, with the greatest sum that follows it, by
-// its edge reward with that sum. It is no more than that one, so where the number is no less, nothing is computed.
-fn better_by_row(
+// The reward of a look from `c` after those from `a` and `b`, with the greatest sum that follows it, by its edge reward with that sum.
+fn gain_by_row(
     sc: &Scenario,
     prefix: &Path,
     units: &Units,
+    twos: &Units,
+    shares: &[u128],
+    before: &[LookPart],
     less: &[u128],
     row: &[LookPart],
-    best: u128,
     gain: u128,
-    outer: u128,
     s: u32,
     a: u8,
     b: u8,
@@ -78,28 +80,75 @@ fn better_by_row(
     requires middle { IsMiddle sc.now prefix.now s }
     requires to { c < sc.now.positions }
     requires units { HasUnits sc.now units.now }
+    requires twos { HasTwos sc.now twos.now }
+    requires before { before.now ≡ look_row sc.now.sweep (s - 1) a }
+    requires shares { HasShares sc.now prefix.now s a (parts_after_two sc.now prefix.now s) shares.now }
+    requires cells { length shares.now ≡ sc.now.cells }
     requires row { row.now ≡ look_row sc.now.sweep s b }
     requires less { HasLess sc.now prefix.now s a b less.now }
     requires room { length less.now ≡ sc.now.cells }
-    requires outer { outer ≡ skip_of sc.now prefix.now s a c }
+    requires gain { gain ≡ pair_sum sc.now prefix.now s b c }
+    ensures { result ≡ two_and_rest sc.now prefix.now s a b c }
+{
+    sc.recall_sound();
+    let all = joint(sc, prefix, units, less, row, s, a, b, c);
+    let outer = skip(sc, prefix, twos, shares, before, s, a, c);
+    gain_after(sc, prefix, gain, all, outer, s, a, b, c)
+}
+
+// The greater of that reward and a number, which is no less than the one of `top`. The reward is no more than the edge reward with the
+// sum, so where the number is no less than that, or `c` is `top`, nothing is computed.
+fn better_by_row(
+    sc: &Scenario,
+    prefix: &Path,
+    units: &Units,
+    twos: &Units,
+    shares: &[u128],
+    before: &[LookPart],
+    less: &[u128],
+    row: &[LookPart],
+    top: u8,
+    best: u128,
+    gain: u128,
+    s: u32,
+    a: u8,
+    b: u8,
+    c: u8,
+) -> u128
+    requires middle { IsMiddle sc.now prefix.now s }
+    requires to { c < sc.now.positions }
+    requires units { HasUnits sc.now units.now }
+    requires twos { HasTwos sc.now twos.now }
+    requires before { before.now ≡ look_row sc.now.sweep (s - 1) a }
+    requires shares { HasShares sc.now prefix.now s a (parts_after_two sc.now prefix.now s) shares.now }
+    requires cells { length shares.now ≡ sc.now.cells }
+    requires row { row.now ≡ look_row sc.now.sweep s b }
+    requires less { HasLess sc.now prefix.now s a b less.now }
+    requires room { length less.now ≡ sc.now.cells }
+    requires top { two_and_rest sc.now prefix.now s a b top ≤ best }
     requires gain { gain ≡ pair_sum sc.now prefix.now s b c }
     ensures { result ≡ max (two_and_rest sc.now prefix.now s a b c) best }
 {
     sc.recall_sound();
-    if gain <= best {
+    if gain <= best || c == top {
         return best;
     }
-    let all = joint(sc, prefix, units, less, row, s, a, b, c);
-    gain_after(sc, prefix, gain, all, outer, s, a, b, c).max(best)
+    gain_by_row(
+        sc, prefix, units, twos, shares, before, less, row, gain, s, a, b, c,
+    )
+    .max(best)
 }
 
-// The greatest sum behind looks from `a` in the period before `s` and `b` in period `s`, by the sums of the pairs that `b` begins.
+// The greatest sum behind looks from `a` in the period before `s` and `b` in period `s`, by the sums of the pairs that `b` begins, from
+// the greatest of these on.
 fn best_after(
     sc: &Scenario,
     prefix: &Path,
     units: &Units,
+    twos: &Units,
     pairs: &[u128],
-    skips: &[u128],
+    shares: &[u128],
+    before: &[LookPart],
     less: &[u128],
     row: &[LookPart],
     s: u32,
@@ -111,10 +160,12 @@ fn best_after(
     requires step { Contains (moves_from sc.now.moves a) b }
     requires to { b < sc.now.positions }
     requires units { HasUnits sc.now units.now }
+    requires twos { HasTwos sc.now twos.now }
     requires size { length pairs.now ≡ sc.now.positions * sc.now.positions }
     requires pairs { HasPairs sc.now prefix.now s pairs.now }
-    requires width { length skips.now ≡ sc.now.positions }
-    requires skips { HasSkips sc.now prefix.now s a skips.now }
+    requires before { before.now ≡ look_row sc.now.sweep (s - 1) a }
+    requires shares { HasShares sc.now prefix.now s a (parts_after_two sc.now prefix.now s) shares.now }
+    requires cells { length shares.now ≡ sc.now.cells }
     requires row { row.now ≡ look_row sc.now.sweep s b }
     requires less { HasLess sc.now prefix.now s a b less.now }
     requires room { length less.now ≡ sc.now.cells }
@@ -122,76 +173,89 @@ fn best_after(
 {
     let moves = sc.grid().moves(b);
     let here = usize::from(b) * usize::from(sc.positions());
-    let mut best = 0;
+    let top = least_move(pairs, here, moves);
+    let first = sum_at(pairs, here, top);
+    let mut best = gain_by_row(
+        sc, prefix, units, twos, shares, before, less, row, first, s, a, b, top,
+    );
     for c in moves {
         let gain = sum_at(pairs, here, *c);
-        let outer = skips[usize::from(*c)];
-        best = better_by_row(sc, prefix, units, less, row, best, gain, outer, s, a, b, *c);
+        best = better_by_row(
+            sc, prefix, units, twos, shares, before, less, row, top, best, gain, s, a, b, *c,
+        );
     }
     best
 }
 
-// The same, by what the look from `a` takes of each cell; `less` is room for a row of cells.
-fn best_behind(
+// The edge reward of a look from `b` in period `s` after one from `a`, with the greatest sum that follows it: by its reward without the
+// look from `a`, and what that one finds in each cell of its row, and takes of each cell a period later; `less` is room for a row of
+// cells, and `step` are the parts of a drift and of a look.
+fn sum_by_row(
     sc: &Scenario,
     prefix: &Path,
     units: &Units,
+    twos: &Units,
     pairs: &[u128],
-    skips: &[u128],
-    taken: &[u128],
-    less: &mut [u128],
-    s: u32,
-    a: u8,
-    b: u8,
-) -> u128
-    requires middle { IsMiddle sc.now prefix.now s }
-    requires near { IsNear sc.now.moves (s - 1 - length prefix.now) (last_of sc.now.start prefix.now) a }
-    requires step { Contains (moves_from sc.now.moves a) b }
-    requires to { b < sc.now.positions }
-    requires units { HasUnits sc.now units.now }
-    requires size { length pairs.now ≡ sc.now.positions * sc.now.positions }
-    requires pairs { HasPairs sc.now prefix.now s pairs.now }
-    requires width { length skips.now ≡ sc.now.positions }
-    requires skips { HasSkips sc.now prefix.now s a skips.now }
-    requires taken { HasTaken sc.now prefix.now s a taken.now }
-    requires room { length taken.now ≡ sc.now.cells }
-    requires less { length less.old ≡ sc.now.cells }
-    ensures best { result ≡ greatest_pairs sc.now.moves (two_reward_of sc.now prefix.now) (sc.now.horizon - s) (s + 1) a b }
-    ensures less { length less.new ≡ length less.old }
-{
-    let look = look_from(sc, s, b);
-    fill_less(less, sc, prefix, taken, look.parts(), s, a, b);
-    best_after(sc, prefix, units, pairs, skips, less, look.parts(), s, a, b)
-}
-
-// The edge reward of a look from `b` in period `s` after one from `a`, by its reward without that look and what that look finds in each
-// cell of its row, in the parts of what is to come after one look more; `step` are those of that one and of a drift.
-fn edge_by_shares(
-    sc: &Scenario,
-    prefix: &Path,
-    units: &Units,
     reward: u128,
     shares: &[u128],
     before: &[LookPart],
+    taken: &[u128],
+    less: &mut [u128],
     step: u128,
     s: u32,
     a: u8,
     b: u8,
 ) -> u128
     requires middle { IsMiddle sc.now prefix.now s }
+    requires near { IsNear sc.now.moves (s - 1 - length prefix.now) (last_of sc.now.start prefix.now) a }
+    requires next { Contains (moves_from sc.now.moves a) b }
     requires to { b < sc.now.positions }
     requires units { HasUnits sc.now units.now }
+    requires twos { HasTwos sc.now twos.now }
+    requires size { length pairs.now ≡ sc.now.positions * sc.now.positions }
+    requires pairs { HasPairs sc.now prefix.now s pairs.now }
     requires reward { reward ≡ reward_of sc.now prefix.now s b }
     requires before { before.now ≡ look_row sc.now.sweep (s - 1) a }
     requires shares { HasShares sc.now prefix.now s a (parts_after_two sc.now prefix.now s) shares.now }
     requires room { length shares.now ≡ sc.now.cells }
+    requires taken { HasTaken sc.now prefix.now s a taken.now }
+    requires cells { length taken.now ≡ sc.now.cells }
+    requires less { length less.old ≡ sc.now.cells }
+    requires step { step ≡ sc.now.drift.denominator * sc.now.sweep.denominator }
+    ensures sum { result ≡ edge_and_rest sc.now prefix.now s a b }
+    ensures less { length less.new ≡ length less.old }
+{
+    let look = look_from(sc, s, b);
+    let row = look.parts();
+    let lost = fill_less(less, sc, prefix, taken, row, s, a, b);
+    let edge = edge_after(sc, prefix, reward, lost, step, s, a, b);
+    let best = best_after(
+        sc, prefix, units, twos, pairs, shares, before, less, row, s, a, b,
+    );
+    with_edge(sc, prefix, edge, best, s, a, b)
+}
+
+/// The edge reward of a look from `b` in period `s` after one from `a`, by its reward without that look, and what looks from both would
+/// find one after the other; `step` are the parts of a drift and of a look.
+pub(crate) fn edge_after(
+    sc: &Scenario,
+    prefix: &Path,
+    reward: u128,
+    less: u128,
+    step: u128,
+    s: u32,
+    a: u8,
+    b: u8,
+) -> u128
+    requires middle { IsMiddle sc.now prefix.now s }
+    requires reward { reward ≡ reward_of sc.now prefix.now s b }
+    requires less { less ≡ less_of sc.now prefix.now s a b }
     requires step { step ≡ sc.now.drift.denominator * sc.now.sweep.denominator }
     ensures { result ≡ edge_reward_of sc.now prefix.now s a b }
 {
     let _after = prefix;
-    let _from = a;
+    let _looks = (s, a, b);
     sc.recall_sound();
-    let less = weighted(units, shares, before, s, b);
     reward - less * step
 }
 
@@ -202,9 +266,9 @@ pub(crate) fn fill_sums(
     sc: &Scenario,
     prefix: &Path,
     units: &Units,
+    twos: &Units,
     pairs: &[u128],
     rewards: &[u128],
-    skips: &[u128],
     shares: &[u128],
     taken: &[u128],
     before: &[LookPart],
@@ -217,12 +281,11 @@ pub(crate) fn fill_sums(
     requires from { a < sc.now.positions }
     requires near { IsNear sc.now.moves (s - 1 - length prefix.now) (last_of sc.now.start prefix.now) a }
     requires units { HasUnits sc.now units.now }
+    requires twos { HasTwos sc.now twos.now }
     requires size { length pairs.now ≡ sc.now.positions * sc.now.positions }
     requires pairs { HasPairs sc.now prefix.now s pairs.now }
     requires width { length rewards.now ≡ sc.now.positions }
     requires rewards { (b : ℕ) → Contains (moves_from sc.now.moves a) b → slice_index rewards.now b ≡ reward_of sc.now prefix.now s b }
-    requires wide { length skips.now ≡ sc.now.positions }
-    requires skips { HasSkips sc.now prefix.now s a skips.now }
     requires before { before.now ≡ look_row sc.now.sweep (s - 1) a }
     requires shares { HasShares sc.now prefix.now s a (parts_after_two sc.now prefix.now s) shares.now }
     requires room { length shares.now ≡ sc.now.cells }
@@ -238,14 +301,10 @@ pub(crate) fn fill_sums(
     let step = parts_of_step(sc);
     for b in moves {
         let reward = rewards[usize::from(*b)];
-        let edge = edge_by_shares(sc, prefix, units, reward, shares, before, step, s, a, *b);
-        let best = best_behind(sc, prefix, units, pairs, skips, taken, less, s, a, *b);
-        put_at(
-            earlier,
-            here,
-            *b,
-            with_edge(sc, prefix, edge, best, s, a, *b),
+        let sum = sum_by_row(
+            sc, prefix, units, twos, pairs, reward, shares, before, taken, less, step, s, a, *b,
         );
+        put_at(earlier, here, *b, sum);
     }
 }
 

@@ -17,7 +17,7 @@ ghost use Rattle.two_look_bound.specs.Rooms.{HasTwos};
 use crate::last::fill_last;
 use crate::own::{fill_skips_own, fill_sums_own};
 use crate::pairs::{fill_sums, sum_at};
-use crate::taken::{fill_skips, fill_taken};
+use crate::taken::fill_taken;
 use belief_update::{Onward, later_parts};
 use edge_bound::{Units, fill_rewards, fill_shares, first_reward, found_by, look_from};
 use longest_walk::Near;
@@ -36,13 +36,12 @@ fn parts_behind(sc: &Scenario, prefix: &Path, s: u32) -> u128
 }
 
 // Writes, from `here` on, the edge rewards of looks in period `s` from the moves of `a`, each with the greatest sum that follows it, by
-// the sums of the pairs that begin in period `s` and the parts of what is to come after the look behind it; `room` is three rows of
-// cells, and one of positions.
+// the sums of the pairs that begin in period `s` and the parts of what is to come after the look behind it; `room` begins with
+// three rows of cells.
 fn fill_by_row(
     earlier: &mut [u128],
     room: &mut [u128],
     sc: &Scenario,
-    near: &Near,
     prefix: &Path,
     onward: &Onward,
     units: &Units,
@@ -54,7 +53,6 @@ fn fill_by_row(
     s: u32,
     a: u8,
 )
-    requires within { AreNear sc.now.moves sc.now.horizon near.now }
     requires middle { IsMiddle sc.now prefix.now s }
     requires parts { parts ≡ parts_after_two sc.now prefix.now s }
     requires here { here + sc.now.positions ≤ length earlier.old }
@@ -77,14 +75,13 @@ fn fill_by_row(
     let cells = usize::from(sc.cells());
     let (shares, others) = room.split_at_mut(cells);
     let (taken, behind) = others.split_at_mut(cells);
-    let (less, skips) = behind.split_at_mut(cells);
+    let (less, _) = behind.split_at_mut(cells);
     let look = look_from(sc, s - 1, a);
     let row = look.parts();
     fill_shares(shares, sc, prefix, onward, row, parts, s, a);
     fill_taken(taken, sc, prefix, shares, row, s, a);
-    fill_skips(skips, sc, near, prefix, twos, shares, row, s, a);
     fill_sums(
-        earlier, less, sc, prefix, units, pairs, rewards, skips, shares, taken, row, here, s, a,
+        earlier, less, sc, prefix, units, twos, pairs, rewards, shares, taken, row, here, s, a,
     );
 }
 
@@ -189,7 +186,7 @@ fn fill_pairs(
         return;
     }
     fill_by_row(
-        earlier, room, sc, near, prefix, onward, units, twos, pairs, rewards, behind, here, s, a,
+        earlier, room, sc, prefix, onward, units, twos, pairs, rewards, behind, here, s, a,
     );
 }
 

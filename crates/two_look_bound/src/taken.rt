@@ -5,14 +5,12 @@ ghost use Rattle.drift_chain.specs.DriftRows.{part_in};
 ghost use Rattle.sweep_table.specs.LookParts.{look_row};
 ghost use Rattle.edge_bound.specs.Moves.{HasShares};
 ghost use Rattle.edge_bound.specs.Units.{HasUnits, place_of};
-ghost use Rattle.longest_walk.specs.Near.{AreNear};
 ghost use Rattle.two_look_bound.specs.Pairs.{IsMiddle};
-ghost use Rattle.two_look_bound.specs.Taken.{weighted_sum, parts_after_two, skip_of, joint_of, HasTaken, HasLess, HasSkips};
+ghost use Rattle.two_look_bound.specs.Taken.{weighted_sum, parts_after_two, less_of, skip_of, joint_of, HasTaken, HasLess};
 ghost use Rattle.two_look_bound.specs.Rooms.{HasTwos};
 
 use drift_chain::DriftPart;
 use edge_bound::Units;
-use longest_walk::Near;
 use search_model::{Path, Scenario};
 use sweep_table::LookPart;
 
@@ -84,7 +82,8 @@ pub(crate) fn fill_taken(
     }
 }
 
-/// Writes what a look from `b` in period `s` would find, in each cell of its row, of what a look from `a` in the period before takes.
+/// Writes what a look from `b` in period `s` would find, in each cell of its row, of what a look from `a` in the period before takes,
+/// and answers the sum.
 pub(crate) fn fill_less(
     less: &mut [u128],
     sc: &Scenario,
@@ -94,22 +93,26 @@ pub(crate) fn fill_less(
     s: u32,
     a: u8,
     b: u8,
-)
+) -> u128
     requires middle { IsMiddle sc.now prefix.now s }
     requires row { row.now ≡ look_row sc.now.sweep s b }
     requires taken { HasTaken sc.now prefix.now s a taken.now }
     requires room { length taken.now ≡ sc.now.cells }
     requires size { length less.old ≡ sc.now.cells }
+    ensures sum { result ≡ less_of sc.now prefix.now s a b }
     ensures each { HasLess sc.now prefix.now s a b less.new }
     ensures size { length less.new ≡ length less.old }
 {
     let _after = prefix;
     let _looks = (s, a, b);
     let whole = sc.sweep().denominator();
+    let mut sum = 0;
     for i in 0..row.len() {
         let found = taken[row[i].cell as usize] * u128::from(whole - row[i].part);
         less[i] = found;
+        sum += found;
     }
+    sum
 }
 
 /// What looks from `a` in the period before `s`, `b` in period `s` and `c` in the one after it would find one after the other.
@@ -162,34 +165,4 @@ pub(crate) fn skip(
     sc.recall_sound();
     let sum = weighted(twos, shares, before, s, c);
     sum * u128::from(sc.sweep().denominator())
-}
-
-/// Writes the same for all `c` within two moves of `a`.
-pub(crate) fn fill_skips(
-    skips: &mut [u128],
-    sc: &Scenario,
-    near: &Near,
-    prefix: &Path,
-    twos: &Units,
-    shares: &[u128],
-    before: &[LookPart],
-    s: u32,
-    a: u8,
-)
-    requires near { AreNear sc.now.moves sc.now.horizon near.now }
-    requires middle { IsMiddle sc.now prefix.now s }
-    requires from { a < sc.now.positions }
-    requires twos { HasTwos sc.now twos.now }
-    requires before { before.now ≡ look_row sc.now.sweep (s - 1) a }
-    requires shares { HasShares sc.now prefix.now s a (parts_after_two sc.now prefix.now s) shares.now }
-    requires room { length shares.now ≡ sc.now.cells }
-    requires size { length skips.old ≡ sc.now.positions }
-    ensures each { HasSkips sc.now prefix.now s a skips.new }
-    ensures size { length skips.new ≡ length skips.old }
-{
-    sc.recall_sound();
-    let two = near.within(sc.grid(), a, 2);
-    for c in two {
-        skips[usize::from(*c)] = skip(sc, prefix, twos, shares, before, s, a, *c);
-    }
 }

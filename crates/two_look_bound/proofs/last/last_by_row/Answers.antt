@@ -1,4 +1,4 @@
-use Rattle.std.proofs.Common.{◌≡◌, ◌∙◌, arith}
+use Rattle.std.proofs.Common.{arith}
 use Rattle.edge_bound.proofs.Fitting.{found_parts-within}
 use Rattle.two_look_bound.proofs.last.last_by_row.Goals as goal
 

@@ -1,4 +1,4 @@
-use Rattle.std.proofs.Common.{◌-◌, ◌+◌, ◌*◌, ◌≡◌, arith}
+use Rattle.std.proofs.Common.{◌-◌, ◌*◌, ◌≡◌, arith}
 use Rattle.search_model.proofs.RewardSizes.{weights-fit}
 use Rattle.search_model.proofs.Totals.{whole_weight-fits}
 use Rattle.two_look_bound.specs.Pairs.{two_and_rest}
@@ -32,7 +32,7 @@ bounds-row-from c = rw c.from.ensures (omega (arith, c.requires.to, c.requires.w
 -- what all three would find
 all_is : (c : goal.After-from-2) → c.args.less * c.from-2.result ≡ joint_of c.args.sc.now c.args.prefix.now c.args.s c.args.a c.args.b c.args.c
 all_is c =
-    rw (c.from-2.ensures, c.from.ensures, c.requires.row c.args.c c.requires.to, c.requires.less) (joint_owned c.args.sc.now c.recall_sound.ensures c.args.prefix.now c.args.s c.args.a c.requires.before c.args.b c.args.c c.requires.own)
+    rw (c.from-2.ensures, c.from.ensures, c.requires.row c.args.c c.requires.to, c.requires.less) (joint_owned c.args.sc.now c.recall_sound.ensures c.args.prefix.now c.args.s c.args.a c.args.b c.args.c c.requires.own)
 
 pub overflow_mul-all : goal.overflow_mul-all
 overflow_mul-all c =

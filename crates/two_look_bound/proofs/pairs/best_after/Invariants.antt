@@ -1,10 +1,13 @@
-use Rattle.std.proofs.Common.{◌≡◌, ℕ, map, max, drop}
+use Rattle.std.proofs.Common.{◌≡◌, ◌≤◌, ℕ, map, max, drop}
 use Rattle.search_model.specs.Bounds.{greatest}
 use Rattle.two_look_bound.specs.Pairs.{two_and_rest}
 use Rattle.two_look_bound.proofs.pairs.best_after.Given as goal
 
--- the best so far, or the greatest of what is left
+-- the best so far, or the greatest of what is left; and what the move that was tried first gives is no more than the best
 abbrev pub invariant-loop-c : goal.invariant-loop-c
 invariant-loop-c l =
     let f : ℕ → ℕ = two_and_rest l.sc l.prefix l.s l.a l.b in
-    max l.best (greatest (map f (drop l.c-index l.moves))) ≡ greatest (map f l.moves)
+    record {
+      best : max l.best (greatest (map f (drop l.c-index l.moves))) ≡ greatest (map f l.moves);
+      top : f l.top ≤ l.best;
+    }

@@ -1,24 +1,10 @@
-use Rattle.std.proofs.Common.{◌-◌, ◌≡◌, arith}
-use Rattle.search_model.proofs.RewardSizes.{weights-fit}
-use Rattle.two_look_bound.specs.Pairs.{two_and_rest}
-use Rattle.two_look_bound.proofs.Fitting.{pair_sum-within, two-below}
+use Rattle.std.proofs.Common.{inl, inr, arith}
+use Rattle.two_look_bound.proofs.Fitting.{two-below}
 use Rattle.two_look_bound.proofs.pairs.better_by_row.Goals as goal
 
 pub returns-then-gain-best : goal.returns-then-gain-best
 returns-then-gain-best c =
-    omega (arith, two-below c.args.sc.now c.recall_sound.ensures c.args.prefix.now c.args.s c.args.a c.args.b c.args.c c.requires.middle, c.requires.gain, c.if-gain-best.true)
-
-pub gain_after-requires-clause-least : goal.gain_after-requires-clause-least
-gain_after-requires-clause-least c = rw c.requires.gain (omega arith)
-
-pub gain_after-requires-clause-most : goal.gain_after-requires-clause-most
-gain_after-requires-clause-most c =
-    let p = c.args.sc.now in
-    let s = c.args.s in
-    let most = pair_sum-within p c.recall_sound.ensures c.args.prefix.now s c.args.b c.args.c (omega (arith, c.requires.middle.later)) c.requires.middle.last in
-    rw c.requires.gain (omega (arith, most, weights-fit p c.recall_sound.ensures (p.horizon - s) (omega arith)))
-
-pub returns : goal.returns
-returns c =
-    let sum : c.gain_after.result ≡ two_and_rest c.args.sc.now c.args.prefix.now c.args.s c.args.a c.args.b c.args.c = omega (arith, c.gain_after.ensures, c.requires.gain) in
-    rw (c.max.ensures, sum) (omega arith)
+    elim c.then-gain-best.either [
+      | inl less ↦ omega (arith, two-below c.args.sc.now c.recall_sound.ensures c.args.prefix.now c.args.s c.args.a c.args.b c.args.c c.requires.middle, c.requires.gain, less)
+      | inr same ↦ rw same.1 (omega (arith, c.requires.top))
+    ]

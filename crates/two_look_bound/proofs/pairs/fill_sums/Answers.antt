@@ -1,4 +1,4 @@
-use Rattle.std.proofs.Common.{ℕ, ◌≡◌, ◌+◌, ◌-◌, ◌<◌, length, slice_index, inl, inr, ◌∙◌, arith, get_or-set_other}
+use Rattle.std.proofs.Common.{ℕ, ◌≡◌, ◌+◌, ◌<◌, length, slice_index, inl, inr, ◌∙◌, arith, get_or-set_other}
 use Rattle.std.proofs.Math.ListN.{length-set}
 use Rattle.search_grid.specs.Moves.{moves_from}
 use Rattle.edge_bound.proofs.Walking.{listed_move}
@@ -11,25 +11,20 @@ bounds-rewards-from c =
     let are : c.moves-moves.result.now ≡ moves_from c.args.sc.now.moves c.args.a = rw (← c.grid.ensures.value) c.moves-moves.ensures.value in
     rw (c.from.ensures, c.requires.width) (listed_inside c.args.sc.now c.grid.ensures.sound c.args.a c.loop-b.b-index c.moves-moves.result.now c.requires.from are c.loop-b-test.true)
 
-pub edge_by_shares-edge-requires-clause-reward : goal.edge_by_shares-edge-requires-clause-reward
-edge_by_shares-edge-requires-clause-reward c =
+pub sum_by_row-sum-requires-clause-reward : goal.sum_by_row-sum-requires-clause-reward
+sum_by_row-sum-requires-clause-reward c =
     let are : c.moves-moves.result.now ≡ moves_from c.args.sc.now.moves c.args.a = rw (← c.grid.ensures.value) c.moves-moves.ensures.value in
     rw c.from.ensures (c.requires.rewards _ (listed_move c.args.sc.now c.args.a c.loop-b.b-index c.moves-moves.result.now are c.loop-b-test.true))
 
-pub edge_by_shares-edge-requires-clause-to : goal.edge_by_shares-edge-requires-clause-to
-edge_by_shares-edge-requires-clause-to c =
+pub sum_by_row-sum-requires-clause-to : goal.sum_by_row-sum-requires-clause-to
+sum_by_row-sum-requires-clause-to c =
     let are : c.moves-moves.result.now ≡ moves_from c.args.sc.now.moves c.args.a = rw (← c.grid.ensures.value) c.moves-moves.ensures.value in
     listed_inside c.args.sc.now c.grid.ensures.sound c.args.a c.loop-b.b-index c.moves-moves.result.now c.requires.from are c.loop-b-test.true
 
-pub best_behind-best-requires-clause-step : goal.best_behind-best-requires-clause-step
-best_behind-best-requires-clause-step c =
+pub sum_by_row-sum-requires-clause-next : goal.sum_by_row-sum-requires-clause-next
+sum_by_row-sum-requires-clause-next c =
     let are : c.moves-moves.result.now ≡ moves_from c.args.sc.now.moves c.args.a = rw (← c.grid.ensures.value) c.moves-moves.ensures.value in
     listed_move c.args.sc.now c.args.a c.loop-b.b-index c.moves-moves.result.now are c.loop-b-test.true
-
-pub best_behind-best-requires-clause-to : goal.best_behind-best-requires-clause-to
-best_behind-best-requires-clause-to c =
-    let are : c.moves-moves.result.now ≡ moves_from c.args.sc.now.moves c.args.a = rw (← c.grid.ensures.value) c.moves-moves.ensures.value in
-    listed_inside c.args.sc.now c.grid.ensures.sound c.args.a c.loop-b.b-index c.moves-moves.result.now c.requires.from are c.loop-b-test.true
 
 pub loop-b-preserved : goal.loop-b-preserved
 loop-b-preserved c =
@@ -41,10 +36,10 @@ loop-b-preserved c =
     let inside : c.args.here + b < length c.loop-b.earlier = omega (arith, there, c.requires.here, c.loop-b.invariant.size) in
     let f : ℕ → ℕ = edge_and_rest p c.args.prefix.now c.args.s c.args.a in
     rw c.put_at.ensures (record {
-      each = row_more f c.loop-b.earlier moves c.args.here c.loop-b.b-index _ inside c.with_edge.ensures c.loop-b.invariant.each;
+      each = row_more f c.loop-b.earlier moves c.args.here c.loop-b.b-index _ inside c.sum_by_row-sum.ensures.sum c.loop-b.invariant.each;
       kept = λ i outside. get_or-set_other c.loop-b.earlier (c.args.here + b) i _ 0 (λ e. elim outside [ inl before ↦ omega (arith, before, e) | inr behind ↦ omega (arith, behind, e, there) ]) ∙ c.loop-b.invariant.kept i outside;
       size = length-set _ _ _ ∙ c.loop-b.invariant.size;
-      less = c.best_behind-best.ensures.less ∙ c.loop-b.invariant.less;
+      less = c.sum_by_row-sum.ensures.less ∙ c.loop-b.invariant.less;
     })
 
 pub returns-clause-each : goal.returns-clause-each

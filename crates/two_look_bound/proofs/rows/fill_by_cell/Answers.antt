@@ -1,6 +1,5 @@
-use Rattle.std.proofs.Common.{◌≡◌, ◌*◌, ◌-◌, refl, arith}
+use Rattle.std.proofs.Common.{refl, arith}
 use Rattle.search_model.proofs.Totals.{whole_weight-fits}
-use Rattle.two_look_bound.specs.Taken.{share_of}
 use Rattle.two_look_bound.proofs.Fitting.{found_two-within}
 use Rattle.two_look_bound.proofs.rows.fill_by_cell.Goals as goal
 

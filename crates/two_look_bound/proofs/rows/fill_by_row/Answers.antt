@@ -8,8 +8,5 @@ fill_shares-requires-clause-fits c =
 pub fill_taken-requires-clause-shares : goal.fill_taken-requires-clause-shares
 fill_taken-requires-clause-shares c = rw c.requires.parts at c.fill_shares.ensures.each
 
-pub fill_skips-requires-clause-shares : goal.fill_skips-requires-clause-shares
-fill_skips-requires-clause-shares c = rw c.requires.parts at c.fill_shares.ensures.each
-
 pub fill_sums-requires-clause-shares : goal.fill_sums-requires-clause-shares
 fill_sums-requires-clause-shares c = rw c.requires.parts at c.fill_shares.ensures.each

@@ -1,4 +1,4 @@
-use Rattle.std.proofs.Common.{◌≡◌, ◌+◌, ◌-◌, ◌*◌, ◌<◌, ℕ, length, slice_index, Contains}
+use Rattle.std.proofs.Common.{◌≡◌, ◌+◌, ◌*◌, ◌<◌, ℕ, length, slice_index, Contains}
 use Rattle.search_grid.specs.Moves.{moves_from}
 use Rattle.two_look_bound.specs.Pairs.{edge_and_rest}
 use Rattle.two_look_bound.proofs.rows.fill_row.Given as goal

@@ -1,5 +1,4 @@
-use Rattle.std.proofs.Common.{◌≡◌, ◌+◌, ◌≤◌, slice_index, arith}
-use Rattle.belief_update.specs.Found.{found_of}
+use Rattle.std.proofs.Common.{arith}
 use Rattle.two_look_bound.proofs.TwosTable.{two_gone, two-within}
 use Rattle.two_look_bound.proofs.twos.found_gone.Goals as goal
 
