@@ -10,25 +10,21 @@ use Rattle.search_model.specs.Legal.{walks, continuations, last_of}
 use Rattle.search_model.specs.Tracks.{whole_weight}
 use Rattle.search_model.specs.Bounds.{greatest}
 use Rattle.search_model.specs.Edge.{edge_reward_of}
-use Rattle.search_model.proofs.DriftSums.{steps_total}
 use Rattle.search_model.proofs.LookRows.{found_in_cells}
 use Rattle.search_model.proofs.RewardSizes.{reward-within}
 use Rattle.search_model.proofs.WalkLemmas.{listed_walk}
-use Rattle.list_laws.proofs.Sums.{sum_by-range-le, sum_by-range-part, sum_by-times}
+use Rattle.list_laws.proofs.Sums.{sum_by-range-le, sum_by-times}
 use Rattle.belief_update.specs.Masses.{mass_of, looks_to}
 use Rattle.belief_update.specs.Found.{found_of}
 use Rattle.edge_bound.specs.Found.{one_of}
 use Rattle.edge_bound.specs.After.{mass_after_look, going_on, through, parts_after, loss_of}
 use Rattle.edge_bound.proofs.Discounts.{reward_parts, taken_of_mass, mass_comes}
 use Rattle.edge_bound.proofs.Through.{found-same, found-plus, found-times, taken_of_found}
+use Rattle.edge_bound.proofs.UnitTable.{part-within}
 use Rattle.edge_bound.proofs.Fitting.{greatest-within, found_parts-within, edge_reward-within}
 use Rattle.two_look_bound.specs.Pairs.{two_reward_of, sum_pairs, second_sum, two_sum, greatest_pairs, pair_sum, two_and_rest, IsMiddle}
 use Rattle.two_look_bound.specs.Taken.{taken_to, two_of, parts_after_two, less_of, skip_of, joint_of}
 use Rattle.two_look_bound.proofs.TwoLooks.{found_gone, left_and_found, skip_cells, two_looks}
-
--- a part of a drift's step is within the denominator
-pub part-within : (p : Problem) → IsProblem p → (t d e : ℕ) → d < p.cells → e < p.cells → part_of p.drift t d e ≤ p.drift.denominator
-part-within p sound t d e from to = omega (arith, sum_by-range-part p.cells (part_of p.drift t d) e to, steps_total p sound t d from)
 
 module _ (p : Problem) (sound : IsProblem p) (q : List ℕ) (s : ℕ) (middle : IsMiddle p q s) where
   -- the parts that come after three looks, by those that come after two

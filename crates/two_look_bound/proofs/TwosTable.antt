@@ -19,7 +19,7 @@ use Rattle.belief_update.specs.Found.{found_of}
 use Rattle.two_look_bound.specs.Taken.{two_of, HasGone}
 use Rattle.two_look_bound.specs.Rooms.{HasTwos, HasTwosBlock, HasTwosBlocks}
 use Rattle.two_look_bound.proofs.TwoLooks.{found_gone}
-use Rattle.two_look_bound.proofs.Fitting.{part-within}
+use Rattle.edge_bound.proofs.UnitTable.{part-within}
 
 -- What a look finds of a unit two periods after.
 

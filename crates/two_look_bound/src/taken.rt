@@ -1,7 +1,6 @@
 //! What a look takes of the looks one and two periods after it.
 
 ghost use Rattle.std.specs.Prelude.{◌≡◌, ◌<◌, ◌≤◌, ◌+◌, ◌-◌, ◌*◌, ◌^◌, ℕ, length, slice_index, All};
-ghost use Rattle.drift_chain.specs.DriftRows.{part_in};
 ghost use Rattle.sweep_table.specs.LookParts.{look_row};
 ghost use Rattle.edge_bound.specs.Moves.{HasShares};
 ghost use Rattle.edge_bound.specs.Units.{HasUnits, place_of};
@@ -9,7 +8,7 @@ ghost use Rattle.two_look_bound.specs.Pairs.{IsMiddle};
 ghost use Rattle.two_look_bound.specs.Taken.{weighted_sum, parts_after_two, less_of, skip_of, joint_of, HasTaken, HasLess};
 ghost use Rattle.two_look_bound.specs.Rooms.{HasTwos};
 
-use drift_chain::DriftPart;
+use belief_update::spread;
 use edge_bound::Units;
 use search_model::{Path, Scenario};
 use sweep_table::LookPart;
@@ -39,19 +38,6 @@ pub(crate) fn clear(taken: &mut [u128])
     taken.fill(0);
 }
 
-/// Adds what a row of the drift sends on of a share.
-pub(crate) fn add_row(taken: &mut [u128], row: &[DriftPart], share: u128)
-    requires entries { All (λ entry. entry.cell < length taken.old) row.now }
-    requires fits { (d : ℕ) → d < length taken.old → slice_index taken.old d + share * part_in row.now d < 2 ^ 127 }
-    ensures each { (d : ℕ) → d < length taken.old →
-        slice_index taken.new d ≡ slice_index taken.old d + share * part_in row.now d }
-    ensures size { length taken.new ≡ length taken.old }
-{
-    for entry in row {
-        taken[entry.cell as usize] += share * u128::from(entry.part);
-    }
-}
-
 /// Writes what a look from `a` in the period before `s` takes of the mass of each cell in period `s`, by what it finds in each cell of
 /// its row, in the parts of what is to come.
 pub(crate) fn fill_taken(
@@ -78,7 +64,7 @@ pub(crate) fn fill_taken(
     for i in 0..before.len() {
         let share = shares[i];
         let row = sc.drift().row(s - 1, before[i].cell);
-        add_row(taken, row, share);
+        spread(taken, row, share);
     }
 }
 

@@ -7,9 +7,9 @@ ghost use Rattle.edge_bound.specs.Units.{IsSteady};
 ghost use Rattle.two_look_bound.specs.Taken.{two_of, HasGone};
 ghost use Rattle.two_look_bound.specs.Rooms.{HasTwos, HasTwosBlock, HasTwosBlocks};
 
-use crate::taken::{add_row, clear};
-use belief_update::found;
-use edge_bound::{Units, is_steady};
+use crate::taken::clear;
+use belief_update::spread;
+use edge_bound::{Units, fill_found, is_steady};
 use exact_parts::NoMemory;
 use search_model::Scenario;
 use std::alloc::Global;
@@ -28,23 +28,8 @@ fn go_twice(gone: &mut [u128], sc: &Scenario, s: u32, c: u8)
     let row = sc.drift().row(s - 1, c);
     for i in 0..row.len() {
         let next = sc.drift().row(s, row[i].cell);
-        add_row(gone, next, u128::from(row[i].part));
+        spread(gone, next, u128::from(row[i].part));
     }
-}
-
-// What a look from `b` in the period after `s` finds of a unit that was in cell `c` in the period before it, by where it comes to.
-fn found_gone(sc: &Scenario, gone: &[u128], s: u32, c: u8, b: u8) -> u64
-    requires first { 2 ≤ s }
-    requires last { s + 1 ≤ sc.now.horizon }
-    requires from { c < sc.now.cells }
-    requires to { b < sc.now.positions }
-    requires gone { HasGone sc.now s c gone.now }
-    requires room { length gone.now ≡ sc.now.cells }
-    ensures { result ≡ two_of sc.now s c b }
-{
-    let _from = c;
-    sc.recall_sound();
-    found(sc, s + 1, gone, b) as u64
 }
 
 // Writes the numbers of one cell in a period, position by position, from `here` on; `gone` is room for a row of cells.
@@ -59,10 +44,9 @@ fn fill_cell(numbers: &mut [u64], gone: &mut [u128], sc: &Scenario, here: usize,
     ensures earlier { (i : ℕ) → i < here → slice_index numbers.new i ≡ slice_index numbers.old i }
     ensures gone { length gone.new ≡ length gone.old }
 {
+    sc.recall_sound();
     go_twice(gone, sc, s, c);
-    for b in 0..sc.positions() {
-        numbers[here + usize::from(b)] = found_gone(sc, gone, s, c, b);
-    }
+    fill_found(numbers, sc, gone, here, s + 1);
 }
 
 // Writes the numbers of a period, cell by cell, from `here` on.

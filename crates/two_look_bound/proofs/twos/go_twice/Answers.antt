@@ -19,15 +19,15 @@ row-next-requires-clause-cell c =
     let cell = entry_cell c.args.sc.now c.recall_sound.ensures (c.args.s - 1) c.args.c c.loop-i.i c.row-row.result.now c.requires.from row c.loop-i-test.true in
     rw c.drift-in-loop-i.ensures.value (omega (arith, cell, c.recall_sound.ensures.drift_cells))
 
-pub add_row-requires-clause-entries : goal.add_row-requires-clause-entries
-add_row-requires-clause-entries c =
+pub spread-requires-clause-entries : goal.spread-requires-clause-entries
+spread-requires-clause-entries c =
     let row : c.row-row.result.now ≡ row_of c.args.sc.now.drift (c.args.s - 1) c.args.c = c.row-row.ensures.value ∙ ap (λ (d : DriftRows). row_of d (c.args.s - 1) c.args.c) c.drift.ensures.value in
     let cell = entry_cell c.args.sc.now c.recall_sound.ensures (c.args.s - 1) c.args.c c.loop-i.i c.row-row.result.now c.requires.from row c.loop-i-test.true in
     let next : c.row-next.result.now ≡ row_of c.args.sc.now.drift c.args.s (slice_index_or c.row-row.result.now c.loop-i.i (misses 0 0)).cell = c.row-next.ensures.value ∙ ap (λ (d : DriftRows). row_of d c.args.s (slice_index_or c.row-row.result.now c.loop-i.i (misses 0 0)).cell) c.drift-in-loop-i.ensures.value in
     rw c.loop-i.invariant.size (row_cells c.args.sc.now c.recall_sound.ensures c.args.s _ c.row-next.result.now cell next)
 
-pub add_row-requires-clause-fits : goal.add_row-requires-clause-fits
-add_row-requires-clause-fits c d inside =
+pub spread-requires-clause-fits : goal.spread-requires-clause-fits
+spread-requires-clause-fits c d inside =
     let row : c.row-row.result.now ≡ row_of c.args.sc.now.drift (c.args.s - 1) c.args.c = c.row-row.ensures.value ∙ ap (λ (d : DriftRows). row_of d (c.args.s - 1) c.args.c) c.drift.ensures.value in
     let next : c.row-next.result.now ≡ row_of c.args.sc.now.drift c.args.s (slice_index_or c.row-row.result.now c.loop-i.i (misses 0 0)).cell = c.row-next.ensures.value ∙ ap (λ (d : DriftRows). row_of d c.args.s (slice_index_or c.row-row.result.now c.loop-i.i (misses 0 0)).cell) c.drift-in-loop-i.ensures.value in
     let p = c.args.sc.now in
@@ -43,8 +43,8 @@ loop-i-preserved c =
     record {
       each = λ d there.
           let more = sum_by_more (λ (e : CellPart). e.part * part_of p.drift c.args.s e.cell d) c.row-row.result.now c.loop-i.i (misses 0 0) c.loop-i-test.true in
-          c.add_row.ensures.each d (omega (arith, there, c.loop-i.invariant.size)) ∙ rw (c.loop-i.invariant.each d there, c.from.ensures, next) (omega (arith, more));
-      size = c.add_row.ensures.size ∙ c.loop-i.invariant.size;
+          c.spread.ensures.each d (omega (arith, there, c.loop-i.invariant.size)) ∙ rw (c.loop-i.invariant.each d there, c.from.ensures, next) (omega (arith, more));
+      size = c.spread.auto.next ∙ c.loop-i.invariant.size;
     }
 
 pub returns-clause-gone : goal.returns-clause-gone
