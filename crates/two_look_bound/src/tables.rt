@@ -82,16 +82,7 @@ fn sum_from(value: u128, rows: &mut [u128], given: &Setting, path: &Path) -> u12
     ensures rows { length rows.new ≡ length rows.old }
 {
     given.sc.recall_sound();
-    value
-        + sum_after(
-            given.sc,
-            given.prefix,
-            given.onward,
-            given.units,
-            given.twos,
-            rows,
-            path.cells(),
-        )
+    value + sum_after(given, rows, path.cells())
 }
 
 impl TwoLookTables {
