@@ -82,20 +82,7 @@ fn fill_by_row(
     );
     fill_taken(taken, given.sc, given.prefix, shares, row, s, a);
     fill_sums(
-        earlier,
-        less,
-        given.sc,
-        given.prefix,
-        given.units,
-        given.twos,
-        pairs,
-        rewards,
-        shares,
-        taken,
-        row,
-        here,
-        s,
-        a,
+        earlier, less, given, pairs, rewards, shares, taken, row, here, s, a,
     );
 }
 
@@ -132,29 +119,8 @@ fn fill_by_cell(
     let cells = usize::from(given.sc.cells());
     let (_, skips) = room.split_at_mut(cells + cells + cells);
     let share = found_by(given.sc, given.prefix, given.onward, s - 1, a) * parts;
-    fill_skips_own(
-        skips,
-        given.sc,
-        given.near,
-        given.prefix,
-        given.twos,
-        share,
-        s,
-        a,
-    );
-    fill_sums_own(
-        earlier,
-        given.sc,
-        given.prefix,
-        given.units,
-        pairs,
-        rewards,
-        skips,
-        share,
-        here,
-        s,
-        a,
-    );
+    fill_skips_own(skips, given, share, s, a);
+    fill_sums_own(earlier, given, pairs, rewards, skips, share, here, s, a);
 }
 
 // The same, also in the last period; `own` may say that all looks cover their own cells alone.
@@ -188,19 +154,7 @@ fn fill_pairs(
     ensures room { length room.new ≡ length room.old }
 {
     if s == given.sc.horizon() {
-        fill_last(
-            earlier,
-            room,
-            given.sc,
-            given.prefix,
-            given.onward,
-            given.units,
-            rewards,
-            parts,
-            here,
-            s,
-            a,
-        );
+        fill_last(earlier, room, given, rewards, parts, here, s, a);
         return;
     }
     if given.own {
