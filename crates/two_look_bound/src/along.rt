@@ -50,30 +50,11 @@ fn two_reward(given: &Setting, rows: &mut [u128], s: u32, a: u8, b: u8, c: u8) -
         s,
         a,
     );
-    fill_taken(taken, given.sc, given.prefix, shares, before.parts(), s, a);
-    fill_less(less, given.sc, given.prefix, taken, row.parts(), s, a, b);
-    let all = joint(
-        given.sc,
-        given.prefix,
-        given.units,
-        less,
-        row.parts(),
-        s,
-        a,
-        b,
-        c,
-    );
-    let outer = skip(
-        given.sc,
-        given.prefix,
-        given.twos,
-        shares,
-        before.parts(),
-        s,
-        a,
-        c,
-    );
-    gain_after(given.sc, given.prefix, edge, all, outer, s, a, b, c)
+    fill_taken(taken, given, shares, before.parts(), s, a);
+    fill_less(less, given, taken, row.parts(), s, a, b);
+    let all = joint(given, less, row.parts(), s, a, b, c);
+    let outer = skip(given, shares, before.parts(), s, a, c);
+    gain_after(given, edge, all, outer, s, a, b, c)
 }
 
 // The sum of the rewards of the third look after a prefix and of all later ones.

@@ -13,21 +13,19 @@ ghost use Rattle.two_look_bound.specs.Setting.{IsSetting};
 use crate::pairs::put_at;
 use crate::setting::Setting;
 use edge_bound::{fill_shares, found_by, look_from, taken_by_shares, taken_own};
-use search_model::{Path, Scenario};
 use sweep_table::LookPart;
 
 // The edge reward of a look from `b` in the last period, `s`, after one from `a`, by its reward without that look, and what that one
 // takes of it. Nothing follows it.
-fn last_edge(sc: &Scenario, prefix: &Path, reward: u128, loss: u128, s: u32, a: u8, b: u8) -> u128
-    requires period { IsLater sc.now prefix.now s }
-    requires last { s ≡ sc.now.horizon }
-    requires reward { reward ≡ reward_of sc.now prefix.now s b }
-    requires loss { loss ≡ loss_of sc.now prefix.now s a b }
-    ensures { result ≡ edge_and_rest sc.now prefix.now s a b }
+fn last_edge(given: &Setting, reward: u128, loss: u128, s: u32, a: u8, b: u8) -> u128
+    requires period { IsLater given.now.sc.now given.now.prefix.now s }
+    requires last { s ≡ given.now.sc.now.horizon }
+    requires reward { reward ≡ reward_of given.now.sc.now given.now.prefix.now s b }
+    requires loss { loss ≡ loss_of given.now.sc.now given.now.prefix.now s a b }
+    ensures { result ≡ edge_and_rest given.now.sc.now given.now.prefix.now s a b }
 {
-    let _after = prefix;
     let _looks = (s, a, b);
-    sc.recall_sound();
+    given.sc.recall_sound();
     reward - loss
 }
 
@@ -70,7 +68,7 @@ fn last_by_shares(
             a,
             *b,
         );
-        let sum = last_edge(given.sc, given.prefix, reward, loss, s, a, *b);
+        let sum = last_edge(given, reward, loss, s, a, *b);
         put_at(earlier, here, *b, sum);
     }
 }
@@ -146,7 +144,7 @@ fn last_own(
     for b in moves {
         let reward = rewards[usize::from(*b)];
         let loss = taken_own(given.sc, given.prefix, given.units, share, place, s, a, *b);
-        let sum = last_edge(given.sc, given.prefix, reward, loss, s, a, *b);
+        let sum = last_edge(given, reward, loss, s, a, *b);
         put_at(earlier, here, *b, sum);
     }
 }

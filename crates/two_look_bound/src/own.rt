@@ -9,38 +9,27 @@ ghost use Rattle.belief_update.specs.Flows.{IsOwn};
 ghost use Rattle.edge_bound.specs.Units.{HasUnits, place_of};
 ghost use Rattle.two_look_bound.specs.Pairs.{two_reward_of, greatest_pairs, pair_sum, edge_and_rest, two_and_rest, HasPairs, IsMiddle};
 ghost use Rattle.two_look_bound.specs.Taken.{share_of, less_of, skip_of, HasSkips, IsUnitRow};
-ghost use Rattle.two_look_bound.specs.Rooms.{HasTwos};
 ghost use Rattle.two_look_bound.specs.Setting.{IsSetting};
 
 use crate::pairs::{edge_after, gain_after, parts_of_step, put_at, with_edge};
 use crate::setting::Setting;
 use edge_bound::Units;
-use search_model::{Path, Scenario};
+use search_model::Scenario;
 
 // What looks from `a` in the period before `s` and `c` in the one after it would find one after the other, with none between them: by
 // what the look from `a` finds, times the denominator of looks, and where the numbers of its cell begin.
-fn skip_own(
-    sc: &Scenario,
-    prefix: &Path,
-    twos: &Units,
-    scaled: u128,
-    place: usize,
-    s: u32,
-    a: u8,
-    c: u8,
-) -> u128
-    requires middle { IsMiddle sc.now prefix.now s }
-    requires own { IsOwn sc.now a }
-    requires to { c < sc.now.positions }
-    requires twos { HasTwos sc.now twos.now }
-    requires scaled { scaled ≡ share_of sc.now prefix.now s a * sc.now.sweep.denominator }
-    requires place { place ≡ place_of twos.now s a 0 }
-    ensures { result ≡ skip_of sc.now prefix.now s a c }
+fn skip_own(given: &Setting, scaled: u128, place: usize, s: u32, a: u8, c: u8) -> u128
+    requires given { IsSetting given.now }
+    requires middle { IsMiddle given.now.sc.now given.now.prefix.now s }
+    requires own { IsOwn given.now.sc.now a }
+    requires to { c < given.now.sc.now.positions }
+    requires scaled { scaled ≡ share_of given.now.sc.now given.now.prefix.now s a * given.now.sc.now.sweep.denominator }
+    requires place { place ≡ place_of given.now.twos.now s a 0 }
+    ensures { result ≡ skip_of given.now.sc.now given.now.prefix.now s a c }
 {
-    let _after = prefix;
     let _look = (s, a);
-    sc.recall_sound();
-    let two = twos.at(place, c);
+    given.sc.recall_sound();
+    let two = given.twos.at(place, c);
     scaled * u128::from(two)
 }
 
@@ -60,16 +49,7 @@ pub(crate) fn fill_skips_own(skips: &mut [u128], given: &Setting, share: u128, s
     let scaled = share * u128::from(given.sc.sweep().denominator());
     let place = given.twos.place(s, a);
     for c in two {
-        skips[usize::from(*c)] = skip_own(
-            given.sc,
-            given.prefix,
-            given.twos,
-            scaled,
-            place,
-            s,
-            a,
-            *c,
-        );
+        skips[usize::from(*c)] = skip_own(given, scaled, place, s, a, *c);
     }
 }
 
@@ -100,8 +80,7 @@ fn sums_from<'p>(sc: &Scenario, pairs: &'p [u128], b: u8) -> &'p [u128]
 // its edge reward with that sum, what looks from `a` and `c` would find, what looks from `a` and `b` would, and what looks find of a
 // unit in the cell of `b`. It is no more than the edge reward with the sum, so where the number is no less, nothing is computed.
 fn better_own(
-    sc: &Scenario,
-    prefix: &Path,
+    given: &Setting,
     row: &[u64],
     less: u128,
     best: u128,
@@ -112,22 +91,22 @@ fn better_own(
     b: u8,
     c: u8,
 ) -> u128
-    requires middle { IsMiddle sc.now prefix.now s }
-    requires own { IsOwn sc.now b }
-    requires to { c < sc.now.positions }
-    requires width { sc.now.positions ≤ length row.now }
-    requires row { IsUnitRow sc.now (s + 1) b row.now }
-    requires less { less ≡ less_of sc.now prefix.now s a b }
-    requires outer { outer ≡ skip_of sc.now prefix.now s a c }
-    requires gain { gain ≡ pair_sum sc.now prefix.now s b c }
-    ensures { result ≡ max (two_and_rest sc.now prefix.now s a b c) best }
+    requires middle { IsMiddle given.now.sc.now given.now.prefix.now s }
+    requires own { IsOwn given.now.sc.now b }
+    requires to { c < given.now.sc.now.positions }
+    requires width { given.now.sc.now.positions ≤ length row.now }
+    requires row { IsUnitRow given.now.sc.now (s + 1) b row.now }
+    requires less { less ≡ less_of given.now.sc.now given.now.prefix.now s a b }
+    requires outer { outer ≡ skip_of given.now.sc.now given.now.prefix.now s a c }
+    requires gain { gain ≡ pair_sum given.now.sc.now given.now.prefix.now s b c }
+    ensures { result ≡ max (two_and_rest given.now.sc.now given.now.prefix.now s a b c) best }
 {
-    sc.recall_sound();
+    given.sc.recall_sound();
     if gain <= best {
         return best;
     }
     let all = less * u128::from(row[usize::from(c)]);
-    gain_after(sc, prefix, gain, all, outer, s, a, b, c).max(best)
+    gain_after(given, gain, all, outer, s, a, b, c).max(best)
 }
 
 // The greatest sum behind looks from `a` in the period before `s` and `b` in period `s`, by the sums of the pairs that `b` begins, and
@@ -161,19 +140,7 @@ fn best_own(
     for c in moves {
         let gain = sums[usize::from(*c)];
         let outer = skips[usize::from(*c)];
-        best = better_own(
-            given.sc,
-            given.prefix,
-            row,
-            less,
-            best,
-            gain,
-            outer,
-            s,
-            a,
-            b,
-            *c,
-        );
+        best = better_own(given, row, less, best, gain, outer, s, a, b, *c);
     }
     best
 }
@@ -209,36 +176,26 @@ fn sum_own(
     requires place { place ≡ place_of given.now.units.now s a 0 }
     ensures { result ≡ edge_and_rest given.now.sc.now given.now.prefix.now s a b }
 {
-    let less = less_own(given.sc, given.prefix, given.units, share, place, s, a, b);
-    let edge = edge_after(given.sc, given.prefix, reward, less, step, s, a, b);
+    let less = less_own(given, share, place, s, a, b);
+    let edge = edge_after(given, reward, less, step, s, a, b);
     let best = best_own(given, pairs, skips, less, s, a, b);
-    with_edge(given.sc, given.prefix, edge, best, s, a, b)
+    with_edge(given, edge, best, s, a, b)
 }
 
 // What looks from `a` in the period before `s` and `b` in period `s` would find one after the other, by what the look from `a` finds,
 // and where the numbers of its cell begin.
-fn less_own(
-    sc: &Scenario,
-    prefix: &Path,
-    units: &Units,
-    share: u128,
-    place: usize,
-    s: u32,
-    a: u8,
-    b: u8,
-) -> u128
-    requires middle { IsMiddle sc.now prefix.now s }
-    requires own { IsOwn sc.now a }
-    requires to { b < sc.now.positions }
-    requires units { HasUnits sc.now units.now }
-    requires share { share ≡ share_of sc.now prefix.now s a }
-    requires place { place ≡ place_of units.now s a 0 }
-    ensures { result ≡ less_of sc.now prefix.now s a b }
+fn less_own(given: &Setting, share: u128, place: usize, s: u32, a: u8, b: u8) -> u128
+    requires given { IsSetting given.now }
+    requires middle { IsMiddle given.now.sc.now given.now.prefix.now s }
+    requires own { IsOwn given.now.sc.now a }
+    requires to { b < given.now.sc.now.positions }
+    requires share { share ≡ share_of given.now.sc.now given.now.prefix.now s a }
+    requires place { place ≡ place_of given.now.units.now s a 0 }
+    ensures { result ≡ less_of given.now.sc.now given.now.prefix.now s a b }
 {
-    let _after = prefix;
     let _look = (s, a);
-    sc.recall_sound();
-    let unit = units.at(place, b);
+    given.sc.recall_sound();
+    let unit = given.units.at(place, b);
     share * u128::from(unit)
 }
 

@@ -16,14 +16,13 @@ use crate::setting::Setting;
 use crate::taken::{fill_less, joint, skip};
 use edge_bound::look_from;
 use longest_walk::least_move;
-use search_model::{Path, Scenario};
+use search_model::Scenario;
 use sweep_table::LookPart;
 
 /// The reward of a look after two others, with some sum, by the edge reward with it, what the first of the three and the last would
 /// find, and what all three would.
 pub(crate) fn gain_after(
-    sc: &Scenario,
-    prefix: &Path,
+    given: &Setting,
     gain: u128,
     all: u128,
     outer: u128,
@@ -32,16 +31,15 @@ pub(crate) fn gain_after(
     b: u8,
     c: u8,
 ) -> u128
-    requires middle { IsMiddle sc.now prefix.now s }
-    requires all { all ≡ joint_of sc.now prefix.now s a b c }
-    requires outer { outer ≡ skip_of sc.now prefix.now s a c }
-    requires least { edge_reward_of sc.now prefix.now (s + 1) b c ≤ gain }
+    requires middle { IsMiddle given.now.sc.now given.now.prefix.now s }
+    requires all { all ≡ joint_of given.now.sc.now given.now.prefix.now s a b c }
+    requires outer { outer ≡ skip_of given.now.sc.now given.now.prefix.now s a c }
+    requires least { edge_reward_of given.now.sc.now given.now.prefix.now (s + 1) b c ≤ gain }
     requires most { gain < 2 ^ 127 }
-    ensures { result + edge_reward_of sc.now prefix.now (s + 1) b c ≡ gain + two_reward_of sc.now prefix.now (s + 1) a b c }
+    ensures { result + edge_reward_of given.now.sc.now given.now.prefix.now (s + 1) b c ≡ gain + two_reward_of given.now.sc.now given.now.prefix.now (s + 1) a b c }
 {
-    let _after = prefix;
     let _looks = (s, a, b, c);
-    sc.recall_sound();
+    given.sc.recall_sound();
     gain + all - outer
 }
 
@@ -87,9 +85,9 @@ fn gain_by_row(
     ensures { result ≡ two_and_rest given.now.sc.now given.now.prefix.now s a b c }
 {
     given.sc.recall_sound();
-    let all = joint(given.sc, given.prefix, given.units, less, row, s, a, b, c);
-    let outer = skip(given.sc, given.prefix, given.twos, shares, before, s, a, c);
-    gain_after(given.sc, given.prefix, gain, all, outer, s, a, b, c)
+    let all = joint(given, less, row, s, a, b, c);
+    let outer = skip(given, shares, before, s, a, c);
+    gain_after(given, gain, all, outer, s, a, b, c)
 }
 
 // The greater of that reward and a number, which is no less than the one of `top`. The reward is no more than the edge reward with the
@@ -206,17 +204,16 @@ fn sum_by_row(
 {
     let look = look_from(given.sc, s, b);
     let row = look.parts();
-    let lost = fill_less(less, given.sc, given.prefix, taken, row, s, a, b);
-    let edge = edge_after(given.sc, given.prefix, reward, lost, step, s, a, b);
+    let lost = fill_less(less, given, taken, row, s, a, b);
+    let edge = edge_after(given, reward, lost, step, s, a, b);
     let best = best_after(given, pairs, shares, before, less, row, s, a, b);
-    with_edge(given.sc, given.prefix, edge, best, s, a, b)
+    with_edge(given, edge, best, s, a, b)
 }
 
 /// The edge reward of a look from `b` in period `s` after one from `a`, by its reward without that look, and what looks from both would
 /// find one after the other; `step` are the parts of a drift and of a look.
 pub(crate) fn edge_after(
-    sc: &Scenario,
-    prefix: &Path,
+    given: &Setting,
     reward: u128,
     less: u128,
     step: u128,
@@ -224,15 +221,14 @@ pub(crate) fn edge_after(
     a: u8,
     b: u8,
 ) -> u128
-    requires middle { IsMiddle sc.now prefix.now s }
-    requires reward { reward ≡ reward_of sc.now prefix.now s b }
-    requires less { less ≡ less_of sc.now prefix.now s a b }
-    requires step { step ≡ sc.now.drift.denominator * sc.now.sweep.denominator }
-    ensures { result ≡ edge_reward_of sc.now prefix.now s a b }
+    requires middle { IsMiddle given.now.sc.now given.now.prefix.now s }
+    requires reward { reward ≡ reward_of given.now.sc.now given.now.prefix.now s b }
+    requires less { less ≡ less_of given.now.sc.now given.now.prefix.now s a b }
+    requires step { step ≡ given.now.sc.now.drift.denominator * given.now.sc.now.sweep.denominator }
+    ensures { result ≡ edge_reward_of given.now.sc.now given.now.prefix.now s a b }
 {
-    let _after = prefix;
     let _looks = (s, a, b);
-    sc.recall_sound();
+    given.sc.recall_sound();
     reward - less * step
 }
 
@@ -290,22 +286,13 @@ pub(crate) fn parts_of_step(sc: &Scenario) -> u128
 }
 
 /// An edge reward with the greatest sum that follows it.
-pub(crate) fn with_edge(
-    sc: &Scenario,
-    prefix: &Path,
-    edge: u128,
-    best: u128,
-    s: u32,
-    a: u8,
-    b: u8,
-) -> u128
-    requires period { IsLater sc.now prefix.now s }
-    requires edge { edge ≡ edge_reward_of sc.now prefix.now s a b }
-    requires best { best ≡ greatest_pairs sc.now.moves (two_reward_of sc.now prefix.now) (sc.now.horizon - s) (s + 1) a b }
-    ensures { result ≡ edge_and_rest sc.now prefix.now s a b }
+pub(crate) fn with_edge(given: &Setting, edge: u128, best: u128, s: u32, a: u8, b: u8) -> u128
+    requires period { IsLater given.now.sc.now given.now.prefix.now s }
+    requires edge { edge ≡ edge_reward_of given.now.sc.now given.now.prefix.now s a b }
+    requires best { best ≡ greatest_pairs given.now.sc.now.moves (two_reward_of given.now.sc.now given.now.prefix.now) (given.now.sc.now.horizon - s) (s + 1) a b }
+    ensures { result ≡ edge_and_rest given.now.sc.now given.now.prefix.now s a b }
 {
-    let _after = prefix;
     let _looks = (s, a, b);
-    sc.recall_sound();
+    given.sc.recall_sound();
     edge + best
 }

@@ -2,10 +2,9 @@
 
 ghost use Rattle.std.specs.Prelude.{◌≡◌, ◌<◌, ◌≤◌, ◌+◌, ◌-◌, ◌*◌, ◌⊎◌, ℕ, length, map, slice_index, IsTrue, All, Contains};
 ghost use Rattle.search_grid.specs.Moves.{moves_from};
-ghost use Rattle.search_model.specs.Legal.{IsLegal, continuations, last_of, walks};
+ghost use Rattle.search_model.specs.Legal.{continuations, last_of, walks};
 ghost use Rattle.search_model.specs.Bounds.{reward_of, greatest};
 ghost use Rattle.longest_walk.specs.Near.{IsNear};
-ghost use Rattle.belief_update.specs.Onward.{IsOnward};
 ghost use Rattle.edge_bound.specs.After.{parts_after};
 ghost use Rattle.edge_bound.specs.Moves.{IsLater};
 ghost use Rattle.two_look_bound.specs.Pairs.{second_sum, two_sum, edge_and_rest, HasPairs, IsMiddle};
@@ -17,20 +16,19 @@ use crate::own::{fill_skips_own, fill_sums_own};
 use crate::pairs::{fill_sums, sum_at};
 use crate::setting::Setting;
 use crate::taken::fill_taken;
-use belief_update::{Onward, later_parts};
+use belief_update::later_parts;
 use edge_bound::{fill_rewards, fill_shares, first_reward, found_by, look_from};
-use search_model::{Path, Scenario};
 
 // The parts of what is to come after a look in the period behind `s`, with the two looks before it, where such a period comes.
-fn parts_behind(sc: &Scenario, prefix: &Path, s: u32) -> u128
-    requires { IsLater sc.now prefix.now s }
-    ensures { s < sc.now.horizon → result ≡ parts_after_two sc.now prefix.now s }
+fn parts_behind(given: &Setting, s: u32) -> u128
+    requires { IsLater given.now.sc.now given.now.prefix.now s }
+    ensures { s < given.now.sc.now.horizon → result ≡ parts_after_two given.now.sc.now given.now.prefix.now s }
 {
-    sc.recall_sound();
-    if s == sc.horizon() {
+    given.sc.recall_sound();
+    if s == given.sc.horizon() {
         return 0;
     }
-    later_parts(sc, s + 1, prefix.len() as u32 + 3)
+    later_parts(given.sc, s + 1, given.prefix.len() as u32 + 3)
 }
 
 // Writes, from `here` on, the edge rewards of looks in period `s` from the moves of `a`, each with the greatest sum that follows it, by
@@ -80,7 +78,7 @@ fn fill_by_row(
         s,
         a,
     );
-    fill_taken(taken, given.sc, given.prefix, shares, row, s, a);
+    fill_taken(taken, given, shares, row, s, a);
     fill_sums(
         earlier, less, given, pairs, rewards, shares, taken, row, here, s, a,
     );
@@ -191,7 +189,7 @@ fn fill_row(
 {
     given.sc.recall_sound();
     let parts = later_parts(given.sc, s, given.prefix.len() as u32 + 2);
-    let behind = parts_behind(given.sc, given.prefix, s);
+    let behind = parts_behind(given, s);
     let positions = usize::from(given.sc.positions());
     for a in some {
         let here = usize::from(*a) * positions;
@@ -289,37 +287,36 @@ pub(crate) fn go_back(pairs: &mut [u128], earlier: &mut [u128], rows: &mut [u128
 }
 
 // The greatest sum of a look from a move of `a` behind a first look from there, and of what follows it, where such a look comes.
-fn best_second(sc: &Scenario, prefix: &Path, pairs: &[u128], a: u8) -> u128
-    requires legal { IsLegal sc.now prefix.now }
-    requires short { length prefix.now < sc.now.horizon }
-    requires from { a < sc.now.positions }
-    requires step { Contains (moves_from sc.now.moves (last_of sc.now.start prefix.now)) a }
-    requires size { length pairs.now ≡ sc.now.positions * sc.now.positions }
-    requires pairs { length prefix.now + 2 ≤ sc.now.horizon → HasPairs sc.now prefix.now (length prefix.now + 1) pairs.now }
+fn best_second(given: &Setting, pairs: &[u128], a: u8) -> u128
+    requires given { IsSetting given.now }
+    requires short { length given.now.prefix.now < given.now.sc.now.horizon }
+    requires from { a < given.now.sc.now.positions }
+    requires step { Contains (moves_from given.now.sc.now.moves (last_of given.now.sc.now.start given.now.prefix.now)) a }
+    requires size { length pairs.now ≡ given.now.sc.now.positions * given.now.sc.now.positions }
+    requires pairs { length given.now.prefix.now + 2 ≤ given.now.sc.now.horizon → HasPairs given.now.sc.now given.now.prefix.now (length given.now.prefix.now + 1) pairs.now }
     ensures { result ≡
-        greatest (map (second_sum sc.now prefix.now a) (walks sc.now.moves (sc.now.horizon - (length prefix.now + 1)) a)) }
+        greatest (map (second_sum given.now.sc.now given.now.prefix.now a) (walks given.now.sc.now.moves (given.now.sc.now.horizon - (length given.now.prefix.now + 1)) a)) }
 {
-    sc.recall_sound();
-    let first = prefix.len() as u32 + 1;
-    if first == sc.horizon() {
+    given.sc.recall_sound();
+    let first = given.prefix.len() as u32 + 1;
+    if first == given.sc.horizon() {
         return 0;
     }
-    best_pair(sc, prefix, pairs, a)
+    best_pair(given, pairs, a)
 }
 
 // The same where one comes.
-fn best_pair(sc: &Scenario, prefix: &Path, pairs: &[u128], a: u8) -> u128
-    requires short { length prefix.now + 2 ≤ sc.now.horizon }
-    requires from { a < sc.now.positions }
-    requires step { Contains (moves_from sc.now.moves (last_of sc.now.start prefix.now)) a }
-    requires size { length pairs.now ≡ sc.now.positions * sc.now.positions }
-    requires pairs { HasPairs sc.now prefix.now (length prefix.now + 1) pairs.now }
+fn best_pair(given: &Setting, pairs: &[u128], a: u8) -> u128
+    requires short { length given.now.prefix.now + 2 ≤ given.now.sc.now.horizon }
+    requires from { a < given.now.sc.now.positions }
+    requires step { Contains (moves_from given.now.sc.now.moves (last_of given.now.sc.now.start given.now.prefix.now)) a }
+    requires size { length pairs.now ≡ given.now.sc.now.positions * given.now.sc.now.positions }
+    requires pairs { HasPairs given.now.sc.now given.now.prefix.now (length given.now.prefix.now + 1) pairs.now }
     ensures { result ≡
-        greatest (map (second_sum sc.now prefix.now a) (walks sc.now.moves (sc.now.horizon - (length prefix.now + 1)) a)) }
+        greatest (map (second_sum given.now.sc.now given.now.prefix.now a) (walks given.now.sc.now.moves (given.now.sc.now.horizon - (length given.now.prefix.now + 1)) a)) }
 {
-    let _after = prefix;
-    let moves = sc.grid().moves(a);
-    let here = usize::from(a) * usize::from(sc.positions());
+    let moves = given.sc.grid().moves(a);
+    let here = usize::from(a) * usize::from(given.sc.positions());
     let mut best = 0;
     for b in moves {
         let sum = sum_at(pairs, here, *b);
@@ -329,34 +326,32 @@ fn best_pair(sc: &Scenario, prefix: &Path, pairs: &[u128], a: u8) -> u128
 }
 
 // The reward of a first look from `a` after a prefix, with the greatest sum that follows it.
-fn first_sum(sc: &Scenario, prefix: &Path, onward: &Onward, pairs: &[u128], a: u8) -> u128
-    requires legal { IsLegal sc.now prefix.now }
-    requires short { length prefix.now < sc.now.horizon }
-    requires from { a < sc.now.positions }
-    requires step { Contains (moves_from sc.now.moves (last_of sc.now.start prefix.now)) a }
-    requires onward { IsOnward sc.now prefix.now onward.now }
-    requires size { length pairs.now ≡ sc.now.positions * sc.now.positions }
-    requires pairs { length prefix.now + 2 ≤ sc.now.horizon → HasPairs sc.now prefix.now (length prefix.now + 1) pairs.now }
-    ensures { result ≡ reward_of sc.now prefix.now (length prefix.now + 1) a +
-        greatest (map (second_sum sc.now prefix.now a) (walks sc.now.moves (sc.now.horizon - (length prefix.now + 1)) a)) }
+fn first_sum(given: &Setting, pairs: &[u128], a: u8) -> u128
+    requires given { IsSetting given.now }
+    requires short { length given.now.prefix.now < given.now.sc.now.horizon }
+    requires from { a < given.now.sc.now.positions }
+    requires step { Contains (moves_from given.now.sc.now.moves (last_of given.now.sc.now.start given.now.prefix.now)) a }
+    requires size { length pairs.now ≡ given.now.sc.now.positions * given.now.sc.now.positions }
+    requires pairs { length given.now.prefix.now + 2 ≤ given.now.sc.now.horizon → HasPairs given.now.sc.now given.now.prefix.now (length given.now.prefix.now + 1) pairs.now }
+    ensures { result ≡ reward_of given.now.sc.now given.now.prefix.now (length given.now.prefix.now + 1) a +
+        greatest (map (second_sum given.now.sc.now given.now.prefix.now a) (walks given.now.sc.now.moves (given.now.sc.now.horizon - (length given.now.prefix.now + 1)) a)) }
 {
-    sc.recall_sound();
-    first_reward(sc, prefix, onward, a) + best_second(sc, prefix, pairs, a)
+    given.sc.recall_sound();
+    first_reward(given.sc, given.prefix, given.onward, a) + best_second(given, pairs, a)
 }
 
 /// The greatest sum of rewards over the continuations of a prefix, by those of the first pairs of looks after it.
-pub(crate) fn best_first(sc: &Scenario, prefix: &Path, onward: &Onward, pairs: &[u128]) -> u128
-    requires legal { IsLegal sc.now prefix.now }
-    requires short { length prefix.now < sc.now.horizon }
-    requires onward { IsOnward sc.now prefix.now onward.now }
-    requires size { length pairs.now ≡ sc.now.positions * sc.now.positions }
-    requires pairs { length prefix.now + 2 ≤ sc.now.horizon → HasPairs sc.now prefix.now (length prefix.now + 1) pairs.now }
-    ensures { result ≡ greatest (map (two_sum sc.now prefix.now) (continuations sc.now prefix.now)) }
+pub(crate) fn best_first(given: &Setting, pairs: &[u128]) -> u128
+    requires given { IsSetting given.now }
+    requires short { length given.now.prefix.now < given.now.sc.now.horizon }
+    requires size { length pairs.now ≡ given.now.sc.now.positions * given.now.sc.now.positions }
+    requires pairs { length given.now.prefix.now + 2 ≤ given.now.sc.now.horizon → HasPairs given.now.sc.now given.now.prefix.now (length given.now.prefix.now + 1) pairs.now }
+    ensures { result ≡ greatest (map (two_sum given.now.sc.now given.now.prefix.now) (continuations given.now.sc.now given.now.prefix.now)) }
 {
-    let moves = sc.moves_after(prefix);
+    let moves = given.sc.moves_after(given.prefix);
     let mut best = 0;
     for a in moves {
-        let sum = first_sum(sc, prefix, onward, pairs, *a);
+        let sum = first_sum(given, pairs, *a);
         best = sum.max(best);
     }
     best

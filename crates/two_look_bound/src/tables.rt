@@ -67,7 +67,7 @@ fn bound_from(value: u128, sums: &mut [u128], rows: &mut [u128], given: &Setting
     let positions = usize::from(given.sc.positions());
     let (pairs, earlier) = sums.split_at_mut(positions * positions);
     go_back(pairs, earlier, rows, given);
-    value + best_first(given.sc, given.prefix, given.onward, pairs)
+    value + best_first(given, pairs)
 }
 
 // A prefix's value with the rewards of one path that extends it, by the beliefs after it.
