@@ -1,5 +1,6 @@
 -- What the sums behind pairs of looks go by, and when it is right.
-use Rattle.std.specs.Prelude.{ℕ, IsTrue, ◌<◌}
+use Rattle.std.specs.Prelude.{ℕ, IsTrue, ◌<◌, ◌+◌}
+use Rattle.search_model.specs.Problem.{Problem}
 use Rattle.search_model.specs.Legal.{IsLegal}
 use Rattle.longest_walk.specs.Near.{AreNear}
 use Rattle.belief_update.specs.Flows.{IsOwn}
@@ -16,3 +17,7 @@ pub record IsSetting (g : Setting) : Type 0 where
   pub units : HasUnits g.sc.now g.units.now
   pub twos : HasTwos g.sc.now g.twos.now
   pub own : IsTrue g.own → (b : ℕ) → b < g.sc.now.positions → IsOwn g.sc.now b
+
+-- room for three rows of cells
+abbrev pub three_rows : Problem → ℕ
+three_rows p = p.cells + p.cells + p.cells

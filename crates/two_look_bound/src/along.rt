@@ -2,7 +2,7 @@
 
 ghost use Rattle.std.specs.Prelude.{◌≡◌, ◌<◌, ◌≤◌, ◌+◌, ◌-◌, ◌^◌, length, drop, slice_index, All};
 ghost use Rattle.two_look_bound.specs.Pairs.{two_reward_of, sum_pairs, second_sum, two_sum, IsMiddle};
-ghost use Rattle.two_look_bound.specs.Setting.{IsSetting};
+ghost use Rattle.two_look_bound.specs.Setting.{IsSetting, three_rows};
 
 use crate::pairs::gain_after;
 use crate::setting::Setting;
@@ -18,7 +18,7 @@ fn two_reward(given: &Setting, rows: &mut [u128], s: u32, a: u8, b: u8, c: u8) -
     requires from { a < given.now.sc.now.positions }
     requires by { b < given.now.sc.now.positions }
     requires to { c < given.now.sc.now.positions }
-    requires rows { given.now.sc.now.cells + given.now.sc.now.cells + given.now.sc.now.cells ≤ length rows.old }
+    requires rows { three_rows given.now.sc.now ≤ length rows.old }
     ensures reward { result ≡ two_reward_of given.now.sc.now given.now.prefix.now (s + 1) a b c }
     ensures rows { length rows.new ≡ length rows.old }
 {
@@ -63,7 +63,7 @@ fn sum_later(given: &Setting, rows: &mut [u128], path: &[u8]) -> u128
     requires short { length given.now.prefix.now + 2 ≤ given.now.sc.now.horizon }
     requires whole { length path.now ≡ given.now.sc.now.horizon }
     requires within { All (λ a. a < given.now.sc.now.positions) path.now }
-    requires rows { given.now.sc.now.cells + given.now.sc.now.cells + given.now.sc.now.cells ≤ length rows.old }
+    requires rows { three_rows given.now.sc.now ≤ length rows.old }
     requires fits { let k = length given.now.prefix.now in
         sum_pairs (two_reward_of given.now.sc.now given.now.prefix.now) (k + 2 + 1) (slice_index path.now k) (slice_index path.now (k + 1)) (drop (k + 2) path.now) < 2 ^ 127 }
     ensures sum { let k = length given.now.prefix.now in
@@ -84,7 +84,7 @@ fn sum_second(given: &Setting, rows: &mut [u128], path: &[u8]) -> u128
     requires short { length given.now.prefix.now < given.now.sc.now.horizon }
     requires whole { length path.now ≡ given.now.sc.now.horizon }
     requires within { All (λ a. a < given.now.sc.now.positions) path.now }
-    requires rows { given.now.sc.now.cells + given.now.sc.now.cells + given.now.sc.now.cells ≤ length rows.old }
+    requires rows { three_rows given.now.sc.now ≤ length rows.old }
     ensures sum { let k = length given.now.prefix.now in result ≡ second_sum given.now.sc.now given.now.prefix.now (slice_index path.now k) (drop (k + 1) path.now) }
     ensures rows { length rows.new ≡ length rows.old }
 {
@@ -114,7 +114,7 @@ pub(crate) fn sum_after(given: &Setting, rows: &mut [u128], path: &[u8]) -> u128
     requires short { length given.now.prefix.now < given.now.sc.now.horizon }
     requires whole { length path.now ≡ given.now.sc.now.horizon }
     requires within { All (λ a. a < given.now.sc.now.positions) path.now }
-    requires rows { given.now.sc.now.cells + given.now.sc.now.cells + given.now.sc.now.cells ≤ length rows.old }
+    requires rows { three_rows given.now.sc.now ≤ length rows.old }
     ensures sum { result ≡ two_sum given.now.sc.now given.now.prefix.now (drop (length given.now.prefix.now) path.now) }
     ensures rows { length rows.new ≡ length rows.old }
 {

@@ -9,7 +9,7 @@ ghost use Rattle.edge_bound.specs.After.{parts_after};
 ghost use Rattle.edge_bound.specs.Moves.{IsLater};
 ghost use Rattle.two_look_bound.specs.Pairs.{second_sum, two_sum, edge_and_rest, HasPairs, IsMiddle};
 ghost use Rattle.two_look_bound.specs.Taken.{parts_after_two};
-ghost use Rattle.two_look_bound.specs.Setting.{IsSetting};
+ghost use Rattle.two_look_bound.specs.Setting.{IsSetting, three_rows};
 
 use crate::last::fill_last;
 use crate::own::{fill_skips_own, fill_sums_own};
@@ -55,7 +55,7 @@ fn fill_by_row(
     requires pairs { HasPairs given.now.sc.now given.now.prefix.now s pairs.now }
     requires width { length rewards.now ≡ given.now.sc.now.positions }
     requires rewards { (b : ℕ) → Contains (moves_from given.now.sc.now.moves a) b → slice_index rewards.now b ≡ reward_of given.now.sc.now given.now.prefix.now s b }
-    requires room { length room.old ≡ given.now.sc.now.cells + given.now.sc.now.cells + given.now.sc.now.cells + given.now.sc.now.positions }
+    requires room { length room.old ≡ three_rows given.now.sc.now + given.now.sc.now.positions }
     ensures each { (b : ℕ) → Contains (moves_from given.now.sc.now.moves a) b → slice_index earlier.new (here + b) ≡ edge_and_rest given.now.sc.now given.now.prefix.now s a b }
     ensures kept { (i : ℕ) → (i < here) ⊎ (here + given.now.sc.now.positions ≤ i) → slice_index earlier.new i ≡ slice_index earlier.old i }
     ensures size { length earlier.new ≡ length earlier.old }
@@ -107,7 +107,7 @@ fn fill_by_cell(
     requires pairs { HasPairs given.now.sc.now given.now.prefix.now s pairs.now }
     requires width { length rewards.now ≡ given.now.sc.now.positions }
     requires rewards { (b : ℕ) → Contains (moves_from given.now.sc.now.moves a) b → slice_index rewards.now b ≡ reward_of given.now.sc.now given.now.prefix.now s b }
-    requires room { length room.old ≡ given.now.sc.now.cells + given.now.sc.now.cells + given.now.sc.now.cells + given.now.sc.now.positions }
+    requires room { length room.old ≡ three_rows given.now.sc.now + given.now.sc.now.positions }
     ensures each { (b : ℕ) → Contains (moves_from given.now.sc.now.moves a) b → slice_index earlier.new (here + b) ≡ edge_and_rest given.now.sc.now given.now.prefix.now s a b }
     ensures kept { (i : ℕ) → (i < here) ⊎ (here + given.now.sc.now.positions ≤ i) → slice_index earlier.new i ≡ slice_index earlier.old i }
     ensures size { length earlier.new ≡ length earlier.old }
@@ -121,7 +121,7 @@ fn fill_by_cell(
     fill_sums_own(earlier, given, pairs, rewards, skips, share, here, s, a);
 }
 
-// The same, also in the last period; `own` may say that all looks cover their own cells alone.
+// The same, also in the last period, and also where looks cover their own cells alone.
 fn fill_pairs(
     earlier: &mut [u128],
     room: &mut [u128],
@@ -145,7 +145,7 @@ fn fill_pairs(
     requires pairs { s < given.now.sc.now.horizon → HasPairs given.now.sc.now given.now.prefix.now s pairs.now }
     requires width { length rewards.now ≡ given.now.sc.now.positions }
     requires rewards { (b : ℕ) → Contains (moves_from given.now.sc.now.moves a) b → slice_index rewards.now b ≡ reward_of given.now.sc.now given.now.prefix.now s b }
-    requires room { length room.old ≡ given.now.sc.now.cells + given.now.sc.now.cells + given.now.sc.now.cells + given.now.sc.now.positions }
+    requires room { length room.old ≡ three_rows given.now.sc.now + given.now.sc.now.positions }
     ensures each { (b : ℕ) → Contains (moves_from given.now.sc.now.moves a) b → slice_index earlier.new (here + b) ≡ edge_and_rest given.now.sc.now given.now.prefix.now s a b }
     ensures kept { (i : ℕ) → (i < here) ⊎ (here + given.now.sc.now.positions ≤ i) → slice_index earlier.new i ≡ slice_index earlier.old i }
     ensures size { length earlier.new ≡ length earlier.old }
@@ -182,7 +182,7 @@ fn fill_row(
     requires pairs { s < given.now.sc.now.horizon → HasPairs given.now.sc.now given.now.prefix.now s pairs.now }
     requires width { length rewards.now ≡ given.now.sc.now.positions }
     requires rewards { (a b : ℕ) → Contains some.now a → Contains (moves_from given.now.sc.now.moves a) b → slice_index rewards.now b ≡ reward_of given.now.sc.now given.now.prefix.now s b }
-    requires room { length room.old ≡ given.now.sc.now.cells + given.now.sc.now.cells + given.now.sc.now.cells + given.now.sc.now.positions }
+    requires room { length room.old ≡ three_rows given.now.sc.now + given.now.sc.now.positions }
     ensures each { (a b : ℕ) → Contains some.now a → Contains (moves_from given.now.sc.now.moves a) b → slice_index earlier.new (a * given.now.sc.now.positions + b) ≡ edge_and_rest given.now.sc.now given.now.prefix.now s a b }
     ensures size { length earlier.new ≡ length earlier.old }
     ensures room { length room.new ≡ length room.old }
@@ -207,7 +207,7 @@ fn step_back(earlier: &mut [u128], rows: &mut [u128], given: &Setting, pairs: &[
     requires room { length earlier.old ≡ given.now.sc.now.positions * given.now.sc.now.positions }
     requires size { length pairs.now ≡ given.now.sc.now.positions * given.now.sc.now.positions }
     requires pairs { s < given.now.sc.now.horizon → HasPairs given.now.sc.now given.now.prefix.now s pairs.now }
-    requires rows { length rows.old ≡ given.now.sc.now.cells + given.now.sc.now.cells + given.now.sc.now.cells + given.now.sc.now.positions + given.now.sc.now.positions }
+    requires rows { length rows.old ≡ three_rows given.now.sc.now + given.now.sc.now.positions + given.now.sc.now.positions }
     ensures pairs { (t : ℕ) → t + 1 ≡ s → HasPairs given.now.sc.now given.now.prefix.now t earlier.new }
     ensures room { length earlier.new ≡ length earlier.old }
     ensures rows { length rows.new ≡ length rows.old }
@@ -232,7 +232,7 @@ fn start_back(pairs: &mut [u128], earlier: &mut [u128], rows: &mut [u128], given
     requires end { given.now.sc.now.horizon ≤ s + 1 }
     requires size { length pairs.old ≡ given.now.sc.now.positions * given.now.sc.now.positions }
     requires room { length earlier.old ≡ given.now.sc.now.positions * given.now.sc.now.positions }
-    requires rows { length rows.old ≡ given.now.sc.now.cells + given.now.sc.now.cells + given.now.sc.now.cells + given.now.sc.now.positions + given.now.sc.now.positions }
+    requires rows { length rows.old ≡ three_rows given.now.sc.now + given.now.sc.now.positions + given.now.sc.now.positions }
     ensures pairs { s < given.now.sc.now.horizon → HasPairs given.now.sc.now given.now.prefix.now s pairs.new }
     ensures size { length pairs.new ≡ length pairs.old }
     ensures room { length earlier.new ≡ length earlier.old }
@@ -253,7 +253,7 @@ fn two_back(pairs: &mut [u128], earlier: &mut [u128], rows: &mut [u128], given: 
     requires pairs { s + 2 < given.now.sc.now.horizon → HasPairs given.now.sc.now given.now.prefix.now (s + 2) pairs.old }
     requires size { length pairs.old ≡ given.now.sc.now.positions * given.now.sc.now.positions }
     requires room { length earlier.old ≡ given.now.sc.now.positions * given.now.sc.now.positions }
-    requires rows { length rows.old ≡ given.now.sc.now.cells + given.now.sc.now.cells + given.now.sc.now.cells + given.now.sc.now.positions + given.now.sc.now.positions }
+    requires rows { length rows.old ≡ three_rows given.now.sc.now + given.now.sc.now.positions + given.now.sc.now.positions }
     ensures pairs { HasPairs given.now.sc.now given.now.prefix.now s pairs.new }
     ensures size { length pairs.new ≡ length pairs.old }
     ensures room { length earlier.new ≡ length earlier.old }
@@ -271,7 +271,7 @@ pub(crate) fn go_back(pairs: &mut [u128], earlier: &mut [u128], rows: &mut [u128
     requires short { length given.now.prefix.now < given.now.sc.now.horizon }
     requires size { length pairs.old ≡ given.now.sc.now.positions * given.now.sc.now.positions }
     requires room { length earlier.old ≡ given.now.sc.now.positions * given.now.sc.now.positions }
-    requires rows { length rows.old ≡ given.now.sc.now.cells + given.now.sc.now.cells + given.now.sc.now.cells + given.now.sc.now.positions + given.now.sc.now.positions }
+    requires rows { length rows.old ≡ three_rows given.now.sc.now + given.now.sc.now.positions + given.now.sc.now.positions }
     ensures pairs { length given.now.prefix.now + 2 ≤ given.now.sc.now.horizon → HasPairs given.now.sc.now given.now.prefix.now (length given.now.prefix.now + 1) pairs.new }
     ensures size { length pairs.new ≡ length pairs.old }
     ensures room { length earlier.new ≡ length earlier.old }

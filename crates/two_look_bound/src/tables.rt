@@ -7,7 +7,7 @@ ghost use Rattle.search_model.specs.Memory.{remembering_of};
 ghost use Rattle.longest_walk.specs.Near.{AreNear};
 ghost use Rattle.belief_update.specs.Onward.{IsOnward};
 ghost use Rattle.edge_bound.specs.Units.{HasUnits};
-ghost use Rattle.two_look_bound.specs.Setting.{IsSetting};
+ghost use Rattle.two_look_bound.specs.Setting.{IsSetting, three_rows};
 
 use crate::along::sum_after;
 use crate::rows::{best_first, go_back};
@@ -59,7 +59,7 @@ fn bound_from(value: u128, sums: &mut [u128], rows: &mut [u128], given: &Setting
     requires given { IsSetting given.now }
     requires value { value ≡ value_of given.now.sc.now given.now.prefix.now }
     requires sums { length sums.old ≡ given.now.sc.now.positions * given.now.sc.now.positions + given.now.sc.now.positions * given.now.sc.now.positions }
-    requires rows { length rows.old ≡ given.now.sc.now.cells + given.now.sc.now.cells + given.now.sc.now.cells + given.now.sc.now.positions + given.now.sc.now.positions }
+    requires rows { length rows.old ≡ three_rows given.now.sc.now + given.now.sc.now.positions + given.now.sc.now.positions }
     requires short { length given.now.prefix.now < given.now.sc.now.horizon }
     ensures { result ≡ remembering_of given.now.sc.now 2 given.now.prefix.now }
 {
@@ -77,7 +77,7 @@ fn sum_from(value: u128, rows: &mut [u128], given: &Setting, path: &Path) -> u12
     requires short { length given.now.prefix.now < given.now.sc.now.horizon }
     requires path { IsPath given.now.sc.now path.now }
     requires begins { take (length given.now.prefix.now) path.now ≡ given.now.prefix.now }
-    requires rows { length rows.old ≡ given.now.sc.now.cells + given.now.sc.now.cells + given.now.sc.now.cells + given.now.sc.now.positions + given.now.sc.now.positions }
+    requires rows { length rows.old ≡ three_rows given.now.sc.now + given.now.sc.now.positions + given.now.sc.now.positions }
     ensures shown { result ≤ remembering_of given.now.sc.now 2 given.now.prefix.now }
     ensures rows { length rows.new ≡ length rows.old }
 {
