@@ -1,3 +1,4 @@
 pub mod Pairs
 pub mod Taken
 pub mod Rooms
+pub mod Setting

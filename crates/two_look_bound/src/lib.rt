@@ -8,6 +8,7 @@ mod laws;
 mod own;
 mod pairs;
 mod rows;
+mod setting;
 mod tables;
 mod taken;
 mod twos;

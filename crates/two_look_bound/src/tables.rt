@@ -1,17 +1,17 @@
 //! The tables of the bound that remembers two looks.
 
-ghost use Rattle.std.specs.Prelude.{◌≡◌, ◌<◌, ◌≤◌, ◌+◌, ◌*◌, ℕ, length, take, IsTrue, IfOk};
+ghost use Rattle.std.specs.Prelude.{◌≡◌, ◌<◌, ◌≤◌, ◌+◌, ◌*◌, length, take, IfOk};
 ghost use Rattle.search_model.specs.Legal.{IsLegal, IsPath};
 ghost use Rattle.search_model.specs.Tracks.{value_of};
 ghost use Rattle.search_model.specs.Memory.{remembering_of};
 ghost use Rattle.longest_walk.specs.Near.{AreNear};
-ghost use Rattle.belief_update.specs.Flows.{IsOwn};
 ghost use Rattle.belief_update.specs.Onward.{IsOnward};
 ghost use Rattle.edge_bound.specs.Units.{HasUnits};
-ghost use Rattle.two_look_bound.specs.Rooms.{HasTwos};
+ghost use Rattle.two_look_bound.specs.Setting.{IsSetting, three_rows};
 
 use crate::along::sum_after;
 use crate::rows::{best_first, go_back};
+use crate::setting::Setting;
 use crate::twos::twos_of;
 use belief_update::Onward;
 use edge_bound::{Units, has_own_looks};
@@ -55,63 +55,34 @@ impl Model for TwoLookTables {
 }
 
 // The greatest of a prefix's value with the rewards of its continuations, by the beliefs after it.
-fn bound_from(
-    value: u128,
-    onward: &Onward,
-    units: &Units,
-    twos: &Units,
-    own: bool,
-    sums: &mut [u128],
-    rows: &mut [u128],
-    sc: &Scenario,
-    near: &Near,
-    prefix: &Path,
-) -> u128
-    requires near { AreNear sc.now.moves sc.now.horizon near.now }
-    requires value { value ≡ value_of sc.now prefix.now }
-    requires onward { IsOnward sc.now prefix.now onward.now }
-    requires units { HasUnits sc.now units.now }
-    requires twos { HasTwos sc.now twos.now }
-    requires own { IsTrue own → (b : ℕ) → b < sc.now.positions → IsOwn sc.now b }
-    requires sums { length sums.old ≡ sc.now.positions * sc.now.positions + sc.now.positions * sc.now.positions }
-    requires rows { length rows.old ≡ sc.now.cells + sc.now.cells + sc.now.cells + sc.now.positions + sc.now.positions }
-    requires legal { IsLegal sc.now prefix.now }
-    requires short { length prefix.now < sc.now.horizon }
-    ensures { result ≡ remembering_of sc.now 2 prefix.now }
+fn bound_from(value: u128, sums: &mut [u128], rows: &mut [u128], given: &Setting) -> u128
+    requires given { IsSetting given.now }
+    requires value { value ≡ value_of given.now.sc.now given.now.prefix.now }
+    requires sums { length sums.old ≡ given.now.sc.now.positions * given.now.sc.now.positions + given.now.sc.now.positions * given.now.sc.now.positions }
+    requires rows { length rows.old ≡ three_rows given.now.sc.now + given.now.sc.now.positions + given.now.sc.now.positions }
+    requires short { length given.now.prefix.now < given.now.sc.now.horizon }
+    ensures { result ≡ remembering_of given.now.sc.now 2 given.now.prefix.now }
 {
-    sc.recall_sound();
-    let positions = usize::from(sc.positions());
+    given.sc.recall_sound();
+    let positions = usize::from(given.sc.positions());
     let (pairs, earlier) = sums.split_at_mut(positions * positions);
-    go_back(
-        pairs, earlier, rows, sc, near, prefix, onward, units, twos, own,
-    );
-    value + best_first(sc, prefix, onward, pairs)
+    go_back(pairs, earlier, rows, given);
+    value + best_first(given, pairs)
 }
 
 // A prefix's value with the rewards of one path that extends it, by the beliefs after it.
-fn sum_from(
-    value: u128,
-    onward: &Onward,
-    units: &Units,
-    twos: &Units,
-    rows: &mut [u128],
-    sc: &Scenario,
-    prefix: &Path,
-    path: &Path,
-) -> u128
-    requires value { value ≡ value_of sc.now prefix.now }
-    requires onward { IsOnward sc.now prefix.now onward.now }
-    requires units { HasUnits sc.now units.now }
-    requires twos { HasTwos sc.now twos.now }
-    requires short { length prefix.now < sc.now.horizon }
-    requires path { IsPath sc.now path.now }
-    requires begins { take (length prefix.now) path.now ≡ prefix.now }
-    requires rows { length rows.old ≡ sc.now.cells + sc.now.cells + sc.now.cells + sc.now.positions + sc.now.positions }
-    ensures shown { result ≤ remembering_of sc.now 2 prefix.now }
+fn sum_from(value: u128, rows: &mut [u128], given: &Setting, path: &Path) -> u128
+    requires given { IsSetting given.now }
+    requires value { value ≡ value_of given.now.sc.now given.now.prefix.now }
+    requires short { length given.now.prefix.now < given.now.sc.now.horizon }
+    requires path { IsPath given.now.sc.now path.now }
+    requires begins { take (length given.now.prefix.now) path.now ≡ given.now.prefix.now }
+    requires rows { length rows.old ≡ three_rows given.now.sc.now + given.now.sc.now.positions + given.now.sc.now.positions }
+    ensures shown { result ≤ remembering_of given.now.sc.now 2 given.now.prefix.now }
     ensures rows { length rows.new ≡ length rows.old }
 {
-    sc.recall_sound();
-    value + sum_after(sc, prefix, onward, units, twos, rows, path.cells())
+    given.sc.recall_sound();
+    value + sum_after(given, rows, path.cells())
 }
 
 impl TwoLookTables {
@@ -150,18 +121,16 @@ impl TwoLookTables {
         ensures bound { result ≡ remembering_of sc.now 2 prefix.now }
         ensures made { AreTablesFor sc.now self.new }
     {
-        bound_from(
-            onward.value(),
-            onward,
-            units,
-            &self.twos,
-            self.own,
-            &mut self.sums,
-            &mut self.rows,
+        let given = Setting {
             sc,
             near,
             prefix,
-        )
+            onward,
+            units,
+            twos: &self.twos,
+            own: self.own,
+        };
+        bound_from(onward.value(), &mut self.sums, &mut self.rows, &given)
     }
 
     /// The same bound; or else, where a path that extends the prefix shows that the bound is at least `enough`, a number
@@ -189,29 +158,18 @@ impl TwoLookTables {
         ensures made { AreTablesFor sc.now self.new }
     {
         let value = onward.value();
-        let shown = sum_from(
-            value,
+        let given = Setting {
+            sc,
+            near,
+            prefix,
             onward,
             units,
-            &self.twos,
-            &mut self.rows,
-            sc,
-            prefix,
-            path,
-        );
+            twos: &self.twos,
+            own: self.own,
+        };
+        let shown = sum_from(value, &mut self.rows, &given, path);
         if shown < enough {
-            bound_from(
-                value,
-                onward,
-                units,
-                &self.twos,
-                self.own,
-                &mut self.sums,
-                &mut self.rows,
-                sc,
-                near,
-                prefix,
-            )
+            bound_from(value, &mut self.sums, &mut self.rows, &given)
         } else {
             shown
         }

@@ -3,14 +3,14 @@
 ghost use Rattle.std.specs.Prelude.{◌≡◌, ◌<◌, ◌≤◌, ◌+◌, ◌-◌, ◌*◌, ◌^◌, ℕ, length, slice_index, All};
 ghost use Rattle.sweep_table.specs.LookParts.{look_row};
 ghost use Rattle.edge_bound.specs.Moves.{HasShares};
-ghost use Rattle.edge_bound.specs.Units.{HasUnits, place_of};
+ghost use Rattle.edge_bound.specs.Units.{place_of};
 ghost use Rattle.two_look_bound.specs.Pairs.{IsMiddle};
 ghost use Rattle.two_look_bound.specs.Taken.{weighted_sum, parts_after_two, less_of, skip_of, joint_of, HasTaken, HasLess};
-ghost use Rattle.two_look_bound.specs.Rooms.{HasTwos};
+ghost use Rattle.two_look_bound.specs.Setting.{IsSetting};
 
+use crate::setting::Setting;
 use belief_update::spread;
 use edge_bound::Units;
-use search_model::{Path, Scenario};
 use sweep_table::LookPart;
 
 /// The sum of some shares, one for each entry of a row, times the numbers of their cells in a table, for position `b` in period
@@ -42,28 +42,26 @@ pub(crate) fn clear(taken: &mut [u128])
 /// its row, in the parts of what is to come.
 pub(crate) fn fill_taken(
     taken: &mut [u128],
-    sc: &Scenario,
-    prefix: &Path,
+    given: &Setting,
     shares: &[u128],
     before: &[LookPart],
     s: u32,
     a: u8,
 )
-    requires middle { IsMiddle sc.now prefix.now s }
-    requires before { before.now ≡ look_row sc.now.sweep (s - 1) a }
-    requires shares { HasShares sc.now prefix.now s a (parts_after_two sc.now prefix.now s) shares.now }
-    requires room { length shares.now ≡ sc.now.cells }
-    requires size { length taken.old ≡ sc.now.cells }
-    ensures each { HasTaken sc.now prefix.now s a taken.new }
+    requires middle { IsMiddle given.now.sc.now given.now.prefix.now s }
+    requires before { before.now ≡ look_row given.now.sc.now.sweep (s - 1) a }
+    requires shares { HasShares given.now.sc.now given.now.prefix.now s a (parts_after_two given.now.sc.now given.now.prefix.now s) shares.now }
+    requires room { length shares.now ≡ given.now.sc.now.cells }
+    requires size { length taken.old ≡ given.now.sc.now.cells }
+    ensures each { HasTaken given.now.sc.now given.now.prefix.now s a taken.new }
     ensures size { length taken.new ≡ length taken.old }
 {
-    let _after = prefix;
     let _from = a;
-    sc.recall_sound();
+    given.sc.recall_sound();
     clear(taken);
     for i in 0..before.len() {
         let share = shares[i];
-        let row = sc.drift().row(s - 1, before[i].cell);
+        let row = given.sc.drift().row(s - 1, before[i].cell);
         spread(taken, row, share);
     }
 }
@@ -72,26 +70,24 @@ pub(crate) fn fill_taken(
 /// and answers the sum.
 pub(crate) fn fill_less(
     less: &mut [u128],
-    sc: &Scenario,
-    prefix: &Path,
+    given: &Setting,
     taken: &[u128],
     row: &[LookPart],
     s: u32,
     a: u8,
     b: u8,
 ) -> u128
-    requires middle { IsMiddle sc.now prefix.now s }
-    requires row { row.now ≡ look_row sc.now.sweep s b }
-    requires taken { HasTaken sc.now prefix.now s a taken.now }
-    requires room { length taken.now ≡ sc.now.cells }
-    requires size { length less.old ≡ sc.now.cells }
-    ensures sum { result ≡ less_of sc.now prefix.now s a b }
-    ensures each { HasLess sc.now prefix.now s a b less.new }
+    requires middle { IsMiddle given.now.sc.now given.now.prefix.now s }
+    requires row { row.now ≡ look_row given.now.sc.now.sweep s b }
+    requires taken { HasTaken given.now.sc.now given.now.prefix.now s a taken.now }
+    requires room { length taken.now ≡ given.now.sc.now.cells }
+    requires size { length less.old ≡ given.now.sc.now.cells }
+    ensures sum { result ≡ less_of given.now.sc.now given.now.prefix.now s a b }
+    ensures each { HasLess given.now.sc.now given.now.prefix.now s a b less.new }
     ensures size { length less.new ≡ length less.old }
 {
-    let _after = prefix;
     let _looks = (s, a, b);
-    let whole = sc.sweep().denominator();
+    let whole = given.sc.sweep().denominator();
     let mut sum = 0;
     for i in 0..row.len() {
         let found = taken[row[i].cell as usize] * u128::from(whole - row[i].part);
@@ -103,9 +99,7 @@ pub(crate) fn fill_less(
 
 /// What looks from `a` in the period before `s`, `b` in period `s` and `c` in the one after it would find one after the other.
 pub(crate) fn joint(
-    sc: &Scenario,
-    prefix: &Path,
-    units: &Units,
+    given: &Setting,
     less: &[u128],
     row: &[LookPart],
     s: u32,
@@ -113,42 +107,38 @@ pub(crate) fn joint(
     b: u8,
     c: u8,
 ) -> u128
-    requires middle { IsMiddle sc.now prefix.now s }
-    requires to { c < sc.now.positions }
-    requires units { HasUnits sc.now units.now }
-    requires row { row.now ≡ look_row sc.now.sweep s b }
-    requires less { HasLess sc.now prefix.now s a b less.now }
-    requires room { length less.now ≡ sc.now.cells }
-    ensures { result ≡ joint_of sc.now prefix.now s a b c }
+    requires given { IsSetting given.now }
+    requires middle { IsMiddle given.now.sc.now given.now.prefix.now s }
+    requires to { c < given.now.sc.now.positions }
+    requires row { row.now ≡ look_row given.now.sc.now.sweep s b }
+    requires less { HasLess given.now.sc.now given.now.prefix.now s a b less.now }
+    requires room { length less.now ≡ given.now.sc.now.cells }
+    ensures { result ≡ joint_of given.now.sc.now given.now.prefix.now s a b c }
 {
-    let _after = prefix;
     let _looks = (a, b);
-    sc.recall_sound();
-    weighted(units, less, row, s + 1, c)
+    given.sc.recall_sound();
+    weighted(given.units, less, row, s + 1, c)
 }
 
 /// What looks from `a` in the period before `s` and `c` in the one after it would find one after the other, with none between them.
 pub(crate) fn skip(
-    sc: &Scenario,
-    prefix: &Path,
-    twos: &Units,
+    given: &Setting,
     shares: &[u128],
     before: &[LookPart],
     s: u32,
     a: u8,
     c: u8,
 ) -> u128
-    requires middle { IsMiddle sc.now prefix.now s }
-    requires to { c < sc.now.positions }
-    requires twos { HasTwos sc.now twos.now }
-    requires before { before.now ≡ look_row sc.now.sweep (s - 1) a }
-    requires shares { HasShares sc.now prefix.now s a (parts_after_two sc.now prefix.now s) shares.now }
-    requires room { length shares.now ≡ sc.now.cells }
-    ensures { result ≡ skip_of sc.now prefix.now s a c }
+    requires given { IsSetting given.now }
+    requires middle { IsMiddle given.now.sc.now given.now.prefix.now s }
+    requires to { c < given.now.sc.now.positions }
+    requires before { before.now ≡ look_row given.now.sc.now.sweep (s - 1) a }
+    requires shares { HasShares given.now.sc.now given.now.prefix.now s a (parts_after_two given.now.sc.now given.now.prefix.now s) shares.now }
+    requires room { length shares.now ≡ given.now.sc.now.cells }
+    ensures { result ≡ skip_of given.now.sc.now given.now.prefix.now s a c }
 {
-    let _after = prefix;
     let _from = a;
-    sc.recall_sound();
-    let sum = weighted(twos, shares, before, s, c);
-    sum * u128::from(sc.sweep().denominator())
+    given.sc.recall_sound();
+    let sum = weighted(given.twos, shares, before, s, c);
+    sum * u128::from(given.sc.sweep().denominator())
 }

@@ -7,8 +7,8 @@ use Rattle.two_look_bound.proofs.along.sum_after.Goals as goal
 
 pub overflow_add-result : goal.overflow_add-result
 overflow_add-result c =
-    let p = c.args.sc.now in
-    let q = c.args.prefix.now in
+    let p = c.args.given.now.sc.now in
+    let q = c.args.given.now.prefix.now in
     let x = c.args.path.now in
     let sound = c.recall_sound.ensures in
     let size : length (drop (length q + 1) x) ≡ p.horizon - (length q + 1) = omega (arith, length-drop (length q + 1) x, c.requires.whole) in
@@ -19,5 +19,5 @@ overflow_add-result c =
 
 pub returns-clause-sum : goal.returns-clause-sum
 returns-clause-sum c =
-    let q = c.args.prefix.now in
-    rw (c.first_reward-first.ensures, c.sum_second.ensures.sum, c.len.ensures.value) (omega (arith, two_sum-first c.args.sc.now q c.args.path.now (omega (arith, c.requires.short, c.requires.whole))))
+    let q = c.args.given.now.prefix.now in
+    rw (c.first_reward-first.ensures, c.sum_second.ensures.sum, c.len.ensures.value) (omega (arith, two_sum-first c.args.given.now.sc.now q c.args.path.now (omega (arith, c.requires.short, c.requires.whole))))

@@ -5,7 +5,7 @@ use Rattle.two_look_bound.proofs.along.sum_later.Goals as goal
 
 pub loop-n-init : goal.loop-n-init
 loop-n-init c =
-    let q = c.args.prefix.now in
+    let q = c.args.given.now.prefix.now in
     let one : length q + 2 - 1 ≡ length q + 1 = omega arith in
     let two : length q + 2 - 2 ≡ length q = omega arith in
     rw c.len-n.ensures.value (record {
@@ -16,12 +16,12 @@ loop-n-init c =
 
 pub overflow_add-sum : goal.overflow_add-sum
 overflow_add-sum c =
-    let r = two_reward_of c.args.sc.now c.args.prefix.now in
+    let r = two_reward_of c.args.given.now.sc.now c.args.given.now.prefix.now in
     rw c.two_reward-sum.ensures.reward (omega (arith, sum_pairs-more r c.args.path.now c.loop-n.n c.loop-n.sum _ c.loop-n-test.true (omega (arith, c.loop-n.invariant.start)) c.loop-n.invariant.sum, c.requires.fits))
 
 pub loop-n-preserved : goal.loop-n-preserved
 loop-n-preserved c =
-    let r = two_reward_of c.args.sc.now c.args.prefix.now in
+    let r = two_reward_of c.args.given.now.sc.now c.args.given.now.prefix.now in
     record {
       sum = rw c.two_reward-sum.ensures.reward (sum_pairs-more r c.args.path.now c.loop-n.n c.loop-n.sum _ c.loop-n-test.true (omega (arith, c.loop-n.invariant.start)) c.loop-n.invariant.sum);
       start = omega (arith, c.loop-n.invariant.start);
@@ -32,4 +32,4 @@ pub returns-clause-sum : goal.returns-clause-sum
 returns-clause-sum c =
     let n = c.loop-n.n in
     let x = c.args.path.now in
-    omega (arith, c.loop-n.invariant.sum, sum_pairs-none (two_reward_of c.args.sc.now c.args.prefix.now) (n + 1) (slice_index x (n - 2)) (slice_index x (n - 1)) n x c.loop-n-test.false)
+    omega (arith, c.loop-n.invariant.sum, sum_pairs-none (two_reward_of c.args.given.now.sc.now c.args.given.now.prefix.now) (n + 1) (slice_index x (n - 2)) (slice_index x (n - 1)) n x c.loop-n-test.false)

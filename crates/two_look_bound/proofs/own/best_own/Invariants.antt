@@ -6,5 +6,5 @@ use Rattle.two_look_bound.proofs.own.best_own.Given as goal
 -- the best so far, or the greatest of what is left
 abbrev pub invariant-loop-c : goal.invariant-loop-c
 invariant-loop-c l =
-    let f : ℕ → ℕ = two_and_rest l.sc l.prefix l.s l.a l.b in
+    let f : ℕ → ℕ = two_and_rest l.given.sc.now l.given.prefix.now l.s l.a l.b in
     max l.best (greatest (map f (drop l.c-index l.moves))) ≡ greatest (map f l.moves)

@@ -14,24 +14,24 @@ within-two-requires-clause-position c = rw c.grid.ensures.value (omega (arith, c
 
 pub within-two-requires-clause-made : goal.within-two-requires-clause-made
 within-two-requires-clause-made c =
-    rw c.grid.ensures.value (c.args.sc.now.horizon, c.requires.near, omega (arith, c.requires.middle.later, c.requires.middle.last))
+    rw c.grid.ensures.value (c.args.given.now.sc.now.horizon, c.requires.given.near, omega (arith, c.requires.middle.later, c.requires.middle.last))
 
 pub skip_own-requires-clause-to : goal.skip_own-requires-clause-to
 skip_own-requires-clause-to c =
-    let p = c.args.sc.now in
+    let p = c.args.given.now.sc.now in
     let sound = c.recall_sound.ensures in
     let near = rw c.grid.ensures.value at ((c.within-two.ensures _).0 (Contains-get_or c.within-two.result.now c.loop-c.c-index 0 c.loop-c-test.true)) in
     omega (arith, near_within p.moves sound.grid 2 c.args.a _ (omega (arith, c.requires.from, sound.grid_positions)) near, sound.grid_positions)
 
 pub returns-clause-each : goal.returns-clause-each
 returns-clause-each c d near =
-    let p = c.args.sc.now in
+    let p = c.args.given.now.sc.now in
     let listed = (c.within-two.ensures d).1 (rw c.grid.ensures.value near) in
-    filled_all (λ e. slice_index c.loop-c.skips e ≡ skip_of p c.args.prefix.now c.args.s c.args.a e) c.within-two.result.now c.within-two.result.now c.loop-c.c-index refl c.loop-c-test.false c.loop-c.invariant.each d listed
+    filled_all (λ e. slice_index c.loop-c.skips e ≡ skip_of p c.args.given.now.prefix.now c.args.s c.args.a e) c.within-two.result.now c.within-two.result.now c.loop-c.c-index refl c.loop-c-test.false c.loop-c.invariant.each d listed
 
 pub bounds-skips-from : goal.bounds-skips-from
 bounds-skips-from c =
-    let p = c.args.sc.now in
+    let p = c.args.given.now.sc.now in
     let sound = c.recall_sound.ensures in
     let near = rw c.grid.ensures.value at ((c.within-two.ensures _).0 (Contains-get_or c.within-two.result.now c.loop-c.c-index 0 c.loop-c-test.true)) in
     let there = near_within p.moves sound.grid 2 c.args.a _ (omega (arith, c.requires.from, sound.grid_positions)) near in
@@ -39,13 +39,13 @@ bounds-skips-from c =
 
 pub loop-c-preserved : goal.loop-c-preserved
 loop-c-preserved c =
-    let p = c.args.sc.now in
+    let p = c.args.given.now.sc.now in
     let sound = c.recall_sound.ensures in
     let near = rw c.grid.ensures.value at ((c.within-two.ensures _).0 (Contains-get_or c.within-two.result.now c.loop-c.c-index 0 c.loop-c-test.true)) in
     let there = near_within p.moves sound.grid 2 c.args.a _ (omega (arith, c.requires.from, sound.grid_positions)) near in
     let two = c.within-two.result.now in
     let inside : slice_index two c.loop-c.c-index < length c.loop-c.skips = omega (arith, there, sound.grid_positions, c.requires.size, c.loop-c.invariant.size) in
-    let f : ℕ → ℕ = λ d. skip_of p c.args.prefix.now c.args.s c.args.a d in
+    let f : ℕ → ℕ = λ d. skip_of p c.args.given.now.prefix.now c.args.s c.args.a d in
     rw c.from-in-loop-c.ensures (record {
       each = place_more f c.loop-c.skips two c.loop-c.c-index _ inside c.skip_own.ensures c.loop-c.invariant.each;
       size = length-set _ _ _ ∙ c.loop-c.invariant.size;
@@ -53,14 +53,14 @@ loop-c-preserved c =
 
 pub overflow_mul-scaled : goal.overflow_mul-scaled
 overflow_mul-scaled c =
-    let p = c.args.sc.now in
+    let p = c.args.given.now.sc.now in
     let sound = c.recall_sound.ensures in
-    rw (c.requires.share, c.from.ensures, c.denominator.ensures.value, c.sweep.ensures.value) (omega (arith, share_whole-within p sound c.args.prefix.now c.args.s c.args.a c.requires.middle, whole_weight-fits p sound))
+    rw (c.requires.share, c.from.ensures, c.denominator.ensures.value, c.sweep.ensures.value) (omega (arith, share_whole-within p sound c.args.given.now.prefix.now c.args.s c.args.a c.requires.middle, whole_weight-fits p sound))
 
 pub place-place-requires-clause-inside : goal.place-place-requires-clause-inside
 place-place-requires-clause-inside c =
-    let own = own_inside c.args.sc.now c.args.a c.recall_sound.ensures c.requires.own in
-    c.requires.twos.inside c.args.s c.args.a 0 (omega (arith, c.requires.middle.later)) c.requires.middle.last own (omega (arith, c.requires.from))
+    let own = own_inside c.args.given.now.sc.now c.args.a c.recall_sound.ensures c.requires.own in
+    c.requires.given.twos.inside c.args.s c.args.a 0 (omega (arith, c.requires.middle.later)) c.requires.middle.last own (omega (arith, c.requires.from))
 
 pub skip_own-requires-clause-scaled : goal.skip_own-requires-clause-scaled
 skip_own-requires-clause-scaled c = rw (c.requires.share, c.from.ensures, c.denominator.ensures.value, c.sweep.ensures.value) refl

@@ -6,7 +6,7 @@ use Rattle.two_look_bound.proofs.pairs.best_after.Given as goal
 -- the best so far, or the greatest of what is left; and what the move that was tried first gives is no more than the best
 abbrev pub invariant-loop-c : goal.invariant-loop-c
 invariant-loop-c l =
-    let f : ℕ → ℕ = two_and_rest l.sc l.prefix l.s l.a l.b in
+    let f : ℕ → ℕ = two_and_rest l.given.sc.now l.given.prefix.now l.s l.a l.b in
     record {
       best : max l.best (greatest (map f (drop l.c-index l.moves))) ≡ greatest (map f l.moves);
       top : f l.top ≤ l.best;

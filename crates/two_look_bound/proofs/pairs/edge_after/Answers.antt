@@ -8,18 +8,18 @@ use Rattle.two_look_bound.proofs.pairs.edge_after.Goals as goal
 
 pub overflow_mul-result : goal.overflow_mul-result
 overflow_mul-result c =
-    let p = c.args.sc.now in
-    let q = c.args.prefix.now in
+    let p = c.args.given.now.sc.now in
+    let q = c.args.given.now.prefix.now in
     let sound = c.recall_sound.ensures in
     let most = taken-within p sound q c.args.s c.args.a c.args.b c.requires.middle.later (omega (arith, c.requires.middle.last)) in
     rw (c.requires.less, c.requires.step, less_loss p sound q c.args.s c.requires.middle c.args.a c.args.b) (omega (arith, most, whole_weight-fits p sound))
 
 -- what is taken, and the edge reward, are the reward
-parts : (c : goal.After-recall_sound) → let p = c.args.sc.now in let q = c.args.prefix.now in
+parts : (c : goal.After-recall_sound) → let p = c.args.given.now.sc.now in let q = c.args.given.now.prefix.now in
     edge_reward_of p q c.args.s c.args.a c.args.b + c.args.less * c.args.step ≡ c.args.reward
 parts c =
-    let p = c.args.sc.now in
-    let q = c.args.prefix.now in
+    let p = c.args.given.now.sc.now in
+    let q = c.args.given.now.prefix.now in
     let sound = c.recall_sound.ensures in
     rw (c.requires.less, c.requires.step, less_loss p sound q c.args.s c.requires.middle c.args.a c.args.b, c.requires.reward)
     (taken_of_reward p q c.args.s c.args.b sound c.requires.middle.later (omega (arith, c.requires.middle.last)) c.args.a)

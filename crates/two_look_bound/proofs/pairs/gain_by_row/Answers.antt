@@ -8,9 +8,9 @@ gain_after-requires-clause-least c = rw c.requires.gain (omega arith)
 
 pub gain_after-requires-clause-most : goal.gain_after-requires-clause-most
 gain_after-requires-clause-most c =
-    let p = c.args.sc.now in
+    let p = c.args.given.now.sc.now in
     let s = c.args.s in
-    let most = pair_sum-within p c.recall_sound.ensures c.args.prefix.now s c.args.b c.args.c (omega (arith, c.requires.middle.later)) c.requires.middle.last in
+    let most = pair_sum-within p c.recall_sound.ensures c.args.given.now.prefix.now s c.args.b c.args.c (omega (arith, c.requires.middle.later)) c.requires.middle.last in
     rw c.requires.gain (omega (arith, most, weights-fit p c.recall_sound.ensures (p.horizon - s) (omega arith)))
 
 pub returns : goal.returns

@@ -6,8 +6,8 @@ use Rattle.two_look_bound.proofs.pairs.with_edge.Goals as goal
 
 pub overflow_add-result : goal.overflow_add-result
 overflow_add-result c =
-    let p = c.args.sc.now in
-    let q = c.args.prefix.now in
+    let p = c.args.given.now.sc.now in
+    let q = c.args.given.now.prefix.now in
     let sound = c.recall_sound.ensures in
     let n = p.horizon - c.args.s in
     let edge = edge_reward-within p sound q c.args.s c.args.a c.args.b (omega (arith, c.requires.period.later, c.requires.period.last)) in

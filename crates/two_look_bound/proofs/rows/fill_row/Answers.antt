@@ -16,9 +16,9 @@ inside n some j all short = All-get_or (λ a. a < n) some j 0 short all
 
 pub fill_pairs-requires-clause-here : goal.fill_pairs-requires-clause-here
 fill_pairs-requires-clause-here c =
-    let p = c.args.sc.now in
+    let p = c.args.given.now.sc.now in
     let a = inside p.positions c.args.some.now c.loop-a.a-index c.requires.inside c.loop-a-test.true in
-    let here : c.from.result * c.from-positions.result ≡ slice_index c.args.some.now c.loop-a.a-index * c.args.sc.now.positions = rw (c.from.ensures, c.from-positions.ensures, c.positions.ensures.value) refl in
+    let here : c.from.result * c.from-positions.result ≡ slice_index c.args.some.now c.loop-a.a-index * c.args.given.now.sc.now.positions = rw (c.from.ensures, c.from-positions.ensures, c.positions.ensures.value) refl in
     rw here (omega (arith, row_inside p.positions p.positions (slice_index c.args.some.now c.loop-a.a-index) a, c.requires.size, c.loop-a.invariant.size))
 
 pub fill_pairs-requires-clause-rewards : goal.fill_pairs-requires-clause-rewards
@@ -26,12 +26,12 @@ fill_pairs-requires-clause-rewards c b move = c.requires.rewards (slice_index c.
 
 pub loop-a-preserved : goal.loop-a-preserved
 loop-a-preserved c =
-    let p = c.args.sc.now in
-    let q = c.args.prefix.now in
+    let p = c.args.given.now.sc.now in
+    let q = c.args.given.now.prefix.now in
     let s = c.args.s in
     let some = c.args.some.now in
     let a = slice_index some c.loop-a.a-index in
-    let here : c.from.result * c.from-positions.result ≡ slice_index c.args.some.now c.loop-a.a-index * c.args.sc.now.positions = rw (c.from.ensures, c.from-positions.ensures, c.positions.ensures.value) refl in
+    let here : c.from.result * c.from-positions.result ≡ slice_index c.args.some.now c.loop-a.a-index * c.args.given.now.sc.now.positions = rw (c.from.ensures, c.from-positions.ensures, c.positions.ensures.value) refl in
     let each = rw here at c.fill_pairs.ensures.each in
     let kept = rw here at c.fill_pairs.ensures.kept in
     let filled : (j b : ℕ) → j < c.loop-a.a-index + 1 → Contains (moves_from p.moves (slice_index some j)) b →

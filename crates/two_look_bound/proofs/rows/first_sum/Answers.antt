@@ -5,8 +5,8 @@ use Rattle.two_look_bound.proofs.rows.first_sum.Goals as goal
 
 pub overflow_add-result : goal.overflow_add-result
 overflow_add-result c =
-    let p = c.args.sc.now in
-    let q = c.args.prefix.now in
+    let p = c.args.given.now.sc.now in
+    let q = c.args.given.now.prefix.now in
     let sound = c.recall_sound.ensures in
     let n = p.horizon - (length q + 1) in
     let first = reward-within p sound q (length q + 1) c.args.a c.requires.short in

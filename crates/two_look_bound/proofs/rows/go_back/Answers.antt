@@ -27,10 +27,10 @@ start_back-requires-clause-end c =
 pub loop-m-init : goal.loop-m-init
 loop-m-init c =
     let half = (halves (c.horizon.result - (c.len.result + 1))).0 in
-    let first : c.len.result + 1 + 2 * ((c.horizon.result - (c.len.result + 1)) / 2) ≡ length c.args.prefix.now + 1 + 2 * ((c.horizon.result - (c.len.result + 1)) / 2) = omega (arith, c.len.ensures.value) in
+    let first : c.len.result + 1 + 2 * ((c.horizon.result - (c.len.result + 1)) / 2) ≡ length c.args.given.now.prefix.now + 1 + 2 * ((c.horizon.result - (c.len.result + 1)) / 2) = omega (arith, c.len.ensures.value) in
     record {
       top = omega (arith, half, c.len.ensures.value, c.horizon.ensures.value, c.requires.short);
-      pairs = λ more. subst (λ (s : ℕ). HasPairs c.args.sc.now c.args.prefix.now s c.start_back.new.pairs) first (c.start_back.ensures.pairs (omega (arith, more, first)));
+      pairs = λ more. subst (λ (s : ℕ). HasPairs c.args.given.now.sc.now c.args.given.now.prefix.now s c.start_back.new.pairs) first (c.start_back.ensures.pairs (omega (arith, more, first)));
     }
 
 pub two_back-requires-clause-first : goal.two_back-requires-clause-first
@@ -41,15 +41,15 @@ two_back-requires-clause-last c = omega (arith, c.len.ensures.value, c.loop-m.in
 
 pub two_back-requires-clause-pairs : goal.two_back-requires-clause-pairs
 two_back-requires-clause-pairs c more =
-    let p = c.args.sc.now in
-    let q = c.args.prefix.now in
+    let p = c.args.given.now.sc.now in
+    let q = c.args.given.now.prefix.now in
     let back : length q + 1 + 2 * c.loop-m.m ≡ c.len.result + 1 + 2 * (c.loop-m.m - 1) + 2 = omega (arith, c.len.ensures.value, c.loop-m-test.true) in
     subst (λ (s : ℕ). HasPairs p q s c.loop-m.pairs) back (c.loop-m.invariant.pairs (omega (arith, more, back)))
 
 pub loop-m-preserved : goal.loop-m-preserved
 loop-m-preserved c =
-    let p = c.args.sc.now in
-    let q = c.args.prefix.now in
+    let p = c.args.given.now.sc.now in
+    let q = c.args.given.now.prefix.now in
     let here : c.len.result + 1 + 2 * (c.loop-m.m - 1) ≡ length q + 1 + 2 * (c.loop-m.m - 1) = omega (arith, c.len.ensures.value) in
     record {
       top = omega (arith, c.loop-m.invariant.top);
@@ -58,7 +58,7 @@ loop-m-preserved c =
 
 pub returns-clause-pairs : goal.returns-clause-pairs
 returns-clause-pairs c more =
-    let p = c.args.sc.now in
-    let q = c.args.prefix.now in
+    let p = c.args.given.now.sc.now in
+    let q = c.args.given.now.prefix.now in
     let first : length q + 1 + 2 * c.loop-m.m ≡ length q + 1 = omega (arith, c.loop-m-test.false) in
     subst (λ (s : ℕ). HasPairs p q s c.loop-m.pairs) first (c.loop-m.invariant.pairs (omega (arith, more, first)))

@@ -5,6 +5,6 @@ use Rattle.two_look_bound.proofs.rows.go_back.Given as goal
 -- the sums of the pairs that begin in a period an even number of periods behind the first look
 abbrev pub invariant-loop-m : goal.invariant-loop-m
 invariant-loop-m l = record {
-  top : length l.prefix + 1 + 2 * l.m ≤ l.sc.horizon;
-  pairs : length l.prefix + 1 + 2 * l.m < l.sc.horizon → HasPairs l.sc l.prefix (length l.prefix + 1 + 2 * l.m) l.pairs;
+  top : length l.given.prefix.now + 1 + 2 * l.m ≤ l.given.sc.now.horizon;
+  pairs : length l.given.prefix.now + 1 + 2 * l.m < l.given.sc.now.horizon → HasPairs l.given.sc.now l.given.prefix.now (length l.given.prefix.now + 1 + 2 * l.m) l.pairs;
 }

@@ -7,6 +7,6 @@ use Rattle.two_look_bound.proofs.taken.fill_taken.Given as goal
 -- what is taken by way of the entries so far
 abbrev pub invariant-loop-i : goal.invariant-loop-i
 invariant-loop-i l = record {
-  each : (e : ℕ) → e < l.sc.cells → slice_index l.taken e ≡ sum_by (found_in l.sc (going_on l.sc l.prefix l.s e)) (take l.i l.before) * parts_after_two l.sc l.prefix l.s;
-  size : length l.taken ≡ l.sc.cells;
+  each : (e : ℕ) → e < l.given.sc.now.cells → slice_index l.taken e ≡ sum_by (found_in l.given.sc.now (going_on l.given.sc.now l.given.prefix.now l.s e)) (take l.i l.before) * parts_after_two l.given.sc.now l.given.prefix.now l.s;
+  size : length l.taken ≡ l.given.sc.now.cells;
 }
