@@ -1,4 +1,4 @@
-"""How a helper ends: its exit statuses, those of the program where these fit (docs/FORMATS.md has the table)."""
+"""How a helper ends: its exit statuses, those of the program where these fit (docs/COMMANDS.md has the table)."""
 import enum
 
 

@@ -7,7 +7,7 @@ from desk import accepted, limits, percent
 from desk.accepted import Refused
 from desk.status import Status
 
-# The exit status (docs/FORMATS.md), the longest text of a trial that is read, in bytes, and the most drifts of it.
+# The exit status (docs/COMMANDS.md), the longest text of a trial that is read, in bytes, and the most drifts of it.
 LONGEST = 16_000_000
 MOST_DRIFTS = 500
 

@@ -1,4 +1,4 @@
-"""Whether `duo` takes a drafted scenario for two searchers, and what would have to be other (docs/FORMATS.md)."""
+"""Whether `duo` takes a drafted scenario for two searchers, and what would have to be other (docs/COMMANDS.md)."""
 import math
 from fractions import Fraction
 

@@ -96,7 +96,7 @@ USAGE = "usage: osp plan [--workers N] [--nodes N] / check / report [--json yes]
 
 
 def rows():
-    """The table "you wrote, it says, do this" of docs/FORMATS.md: what stands in the first column, and its cases."""
+    """The table "you wrote, it says, do this" of docs/COMMANDS.md: what stands in the first column, and its cases."""
     two, plan = read(f"{EXAMPLES}/two-cells.scenario"), read(f"{EXAMPLES}/two-cells.plan")
     other = read(f"{EXAMPLES}/small-lake.plan")
     shorter = read(f"{EXAMPLES}/waiting-target.plan")
@@ -115,9 +115,9 @@ def rows():
     ]
 
 
-def table_of_formats():
-    """The rows of that table, as docs/FORMATS.md has them."""
-    with open(f"{TOP}/docs/FORMATS.md", encoding="utf-8") as file:
+def table_of_commands():
+    """The rows of that table, as docs/COMMANDS.md has them."""
+    with open(f"{TOP}/docs/COMMANDS.md", encoding="utf-8") as file:
         part = file.read().split("| you wrote | it says | do this |\n", 1)[1]
     found = []
     for line in part.splitlines()[1:]:
@@ -133,13 +133,13 @@ def without_lines(says):
 
 def texts_of_rows():
     """The cases of the table, and what the table and its cases don't have in common."""
-    stated = {wrote: without_lines(says) for wrote, says, *_ in table_of_formats()}
-    texts, wrong = [], [f"no case for the row of docs/FORMATS.md: {it}" for it in stated if it not in dict(rows())]
+    stated = {wrote: without_lines(says) for wrote, says, *_ in table_of_commands()}
+    texts, wrong = [], [f"no case for the row of docs/COMMANDS.md: {it}" for it in stated if it not in dict(rows())]
     for wrote, cases in rows():
         for at, (words, given, status, out, err) in enumerate(cases):
             says = without_lines(out + err).strip()
             if f"`{says}`" not in stated.get(wrote, ""):
-                wrong.append(f"docs/FORMATS.md doesn't say `{says}` of: {wrote}")
+                wrong.append(f"docs/COMMANDS.md doesn't say `{says}` of: {wrote}")
             name = f"you wrote {wrote}{f' ({at + 1})' if at else ''}"
             texts.append(Text(name, words.split(), given, status, out, f"{err}\n" if err else ""))
     return texts, wrong

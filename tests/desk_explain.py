@@ -660,7 +660,7 @@ class Rejections(Asked):
         return 1 + self.LONGER_PLAN.split(b"\n").index(line)
 
     def test_all_reasons_have_words(self):
-        table = read(os.path.join(TOP, "docs", "FORMATS.md")).decode().split("## Input and output of a check")[1].split("## Report text")[0]
+        table = read(os.path.join(TOP, "docs", "COMMANDS.md")).decode().split("## Input and output of a check")[1].split("\n## ")[0]
         self.assertEqual(set(re.findall(r"\| `([A-Z][A-Za-z]+)` \|", table)), set(rejection.ABOUT))
         kinds = read(os.path.join(TOP, "docs", "FORMATS.md")).decode().split("## Plan text")[1].split("A carriage return or a tab")[0]
         self.assertEqual(set(re.findall(r"^\| `([A-Z][A-Za-z]+)` \|", kinds, re.MULTILINE)) - {"BadLine", "UnknownName"}, set(rejection.BAD) - {"BadLine"})

@@ -392,8 +392,8 @@ class Words(Strained):
         self.assertEqual(self.ran("next", *files, "--flown=1")[0], 0)
 
     def test_statuses_are_one_table(self):
-        """The enumeration of the desk, and the table of docs/FORMATS.md."""
-        text = read(f"{TOP}/docs/FORMATS.md").decode().split("| status | of a helper |")[1].split("\n\n")[0]
+        """The enumeration of the desk, and the table of docs/COMMANDS.md."""
+        text = read(f"{TOP}/docs/COMMANDS.md").decode().split("| status | of a helper |")[1].split("\n\n")[0]
         self.assertEqual([int(it) for it in re.findall(r"(?m)^\| (\d+) \|", text)], [int(it) for it in status.Status])
 
     def test_limits_are_those_of_the_documents(self):
@@ -413,7 +413,7 @@ class Words(Strained):
         self.assertIn(f"up to {limits.MOST_GAP_NODES} nodes", text)
         self.assertEqual((limits.MOST_MOVES_EACH, limits.FINEST_LOOK, limits.MOST_SCENARIO), (8, 1000, 2**20))
         self.assertIn(f"so {limits.MOST_MOVES_EACH} moves from each position), {limits.FINEST_LOOK} as".replace(",", ""), text)
-        self.assertIn(f"{limits.MOST_INPUT:,} for `check`", read(f"{TOP}/docs/FORMATS.md").decode())
+        self.assertIn(f"{limits.MOST_INPUT:,} for `check`", read(f"{TOP}/docs/COMMANDS.md").decode())
         self.assertEqual(math.isqrt(limits.MOST_PART), 1000)
 
 

@@ -63,8 +63,8 @@ def parts_of(folder):
 
 
 def ways(of_parallel):
-    """The commands of docs/FORMATS.md that run the jobs of a folder: those of GNU parallel, or the others."""
-    shown = read(f"{TOP}/docs/FORMATS.md").decode().split("In the folder any of these runs the jobs:\n\n```\n")[1].split("```")[0]
+    """The commands of docs/COMMANDS.md that run the jobs of a folder: those of GNU parallel, or the others."""
+    shown = read(f"{TOP}/docs/COMMANDS.md").decode().split("In the folder any of these runs the jobs:\n\n```\n")[1].split("```")[0]
     found = [re.split(" {3,}", it)[0] for it in shown.splitlines() if not it.startswith(" ")]
     return [it for it in found if it.startswith("parallel ") == of_parallel]
 
@@ -182,14 +182,14 @@ class Jobs(InHouse):
         run(words, **how).gives(0, f"on path {asked}", "")
 
     def test_each_way(self):
-        """each way to run the jobs that docs/FORMATS.md shows runs them"""
+        """each way to run the jobs that docs/COMMANDS.md shows runs them"""
         self.assertEqual(len(ways(False)), 2)
         for way in ways(False):
             self.assertEqual(self.by_way(way), {"the parts"}, way)
 
     @unittest.skipUnless(shutil.which("parallel") and shutil.which("rsync"), "there is no GNU parallel, or no rsync")
     def test_each_way_by_parallel(self):
-        """each way that docs/FORMATS.md shows to run them by GNU parallel does, here, on hosts with the same folder, and on others"""
+        """each way that docs/COMMANDS.md shows to run them by GNU parallel does, here, on hosts with the same folder, and on others"""
         self.house.write("of hosts/ssh", SSH, 0o755)
         for name in ("one", "two"):
             os.makedirs(f"{self.house.at}/hosts/{name}")

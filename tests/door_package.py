@@ -31,8 +31,8 @@ def files_of(place):
     return found
 
 
-def statuses_of_formats():
-    text = read(f"{TOP}/docs/FORMATS.md").decode().split("## Exit statuses")[1].split("\n## ")[0]
+def statuses_of_commands():
+    text = read(f"{TOP}/docs/COMMANDS.md").decode().split("## Exit statuses")[1].split("\n## ")[0]
     return re.findall(r"^\| (\d+) \|", text, re.M)
 
 
@@ -302,16 +302,16 @@ class Pages(Furnished):
             for row in part.strip().split("\n\n"):
                 words = re.match(r"\s*'([^']*)'", row)[1]
                 self.assertTrue(re.search(rf"^ +{re.escape(words.split(' ')[0])}\b", text, re.M), f"the page lacks {words}")
-        for status in statuses_of_formats():
+        for status in statuses_of_commands():
             self.assertTrue(re.search(rf"^ +{status} ", text.split("EXIT STATUS")[1], re.M), f"the page lacks status {status}")
         self.assertTrue(read(page).count(b"\n.TP\n") >= 30 and "osp \N{HYPHEN}" not in text, "hyphens can't be copied")
         if shutil.which("lexgrog"):
             run(["lexgrog", page], **how).gives(0, f'{page}: "osp - plans a search for somebody who drifts, and shows why no plan is better"\n')
 
     def test_statuses(self):
-        """the table of statuses is that of docs/FORMATS.md"""
+        """the table of statuses is that of docs/COMMANDS.md"""
         part = re.search(r"^statuses=\(\n(.*?)^\)", read(f"{TOP}/door/tables.bash").decode(), re.M | re.S)[1]
-        self.assertEqual(re.findall(r"^  (\d+) '", part, re.M), statuses_of_formats(), "they differ")
+        self.assertEqual(re.findall(r"^  (\d+) '", part, re.M), statuses_of_commands(), "they differ")
 
     def test_completion(self):
         """completion completes commands, options and their values, and leaves files to bash"""

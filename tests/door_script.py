@@ -40,7 +40,7 @@ class Help(InHouse):
     def test_help_has_examples_of_documents(self):
         """the help has what each command does and an example, and each example is a command of a document"""
         lines = run([f"{TOP}/osp", "--help"]).out.splitlines()
-        documents = b"".join(read(f"{TOP}/{it}") for it in ("README.md", "docs/FORMATS.md")).decode()
+        documents = b"".join(read(f"{TOP}/{it}") for it in ("README.md", "docs/COMMANDS.md")).decode()
         heads = [at for at, it in enumerate(lines) if it.startswith("  ./osp ")]
         self.assertGreaterEqual(len(heads), 15)
         for at in heads:
