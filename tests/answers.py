@@ -213,22 +213,44 @@ def texts_of_limits():
 COMMAND = re.compile(r"(?:cat (?P<files>[^|<>;]+) \| )?\./osp(?P<words>(?: [\w./=-]+)*)(?: < (?P<file>\S+))?(?: \| head -n (?P<lines>\d+))?")
 
 
+def documents():
+    """The names of the documents."""
+    own = ["README.md", "CONTRIBUTING.md", "SECURITY.md", "CHANGELOG.md", "examples/README.md"]
+    return own + [f"docs/{it}" for it in sorted(os.listdir(f"{TOP}/docs")) if it.endswith(".md")]
+
+
+def shown_in(text):
+    """Each command of a document that stands behind "$ " in a block, with what stands below it."""
+    found = []
+    for block in re.findall(r"^```\n(\$ .*?)^```", text, re.M | re.S):
+        found += re.findall(r"^\$ (.*)\n((?:(?!\$ ).*\n)*)", block, re.M)
+    return found
+
+
+def shown_by(name, command, out):
+    """The case of a command that a document shows with what it writes, or None where no case can run it."""
+    found = COMMAND.fullmatch(command)
+    if not found:
+        return None
+    asked = found["words"].split()
+    named = [it for it in asked if os.path.isfile(f"{TOP}/{it}")]
+    files = named or (found["files"] or found["file"] or "/dev/null").split()
+    given = b"".join(read(os.path.join(TOP, it)) for it in files)
+    words = [it for it in asked if it not in named]
+    return Shown(f"{name}: {command}", words, given, int(found["lines"] or 0), out, asked if named else None)
+
+
 def texts_of_documents():
-    """Each command that a document shows with what it writes: it stands behind "$ "."""
-    texts = []
-    for name in ("README.md", "CONTRIBUTING.md", "examples/README.md", *(f"docs/{it}" for it in sorted(os.listdir(f"{TOP}/docs")) if it.endswith(".md"))):
-        for block in re.findall(r"^```\n(\$ .*?)^```", read(f"{TOP}/{name}").decode(), re.M | re.S):
-            for command, out in re.findall(r"^\$ (.*)\n((?:(?!\$ ).*\n)*)", block, re.M):
-                found = COMMAND.fullmatch(command)
-                if not found:
-                    continue
-                asked = found["words"].split()
-                named = [it for it in asked if os.path.isfile(f"{TOP}/{it}")]
-                files = named or (found["files"] or found["file"] or "/dev/null").split()
-                given = b"".join(read(os.path.join(TOP, it)) for it in files)
-                words = [it for it in asked if it not in named]
-                texts.append(Shown(f"{name}: {command}", words, given, int(found["lines"] or 0), out, asked if named else None))
-    return texts
+    """Each command that a document shows with what it writes, and what no case can run."""
+    texts, wrong = [], []
+    for name in documents():
+        for command, out in shown_in(read(f"{TOP}/{name}").decode()):
+            text = shown_by(name, command, out)
+            if text:
+                texts.append(text)
+            else:
+                wrong.append(f"{name}: {command}")
+    return texts, wrong
 
 
 @functools.cache
@@ -252,7 +274,7 @@ def texts_of_words():
 @functools.cache
 def texts():
     """All texts."""
-    return [*texts_of_rows()[0], *texts_of_examples()[0], *texts_of_made()[0], *texts_of_limits(), *texts_of_words(), *texts_of_documents()]
+    return [*texts_of_rows()[0], *texts_of_examples()[0], *texts_of_made()[0], *texts_of_limits(), *texts_of_words(), *texts_of_documents()[0]]
 
 
 # What `rt try` answers to the words and the input of each text, where there is no built program.
