@@ -52,6 +52,19 @@ def commit():
     return f"{name}, with edits" if edits else name
 
 
+def moment():
+    """The time of a release, in seconds, so that the same sources give the same bytes: that of the commit, or of the program's sums."""
+    if IS_RELEASE:
+        return int(os.stat(f"{HERE}/RELEASE").st_mtime)
+    told = quiet("git", "-C", HERE, "log", "-1", "--format=%ct") if commit() != "unknown" else ""
+    return int(told) if told else int(os.stat(f"{PROGRAM}.sums").st_mtime)
+
+
+def day():
+    """Its day."""
+    return datetime.datetime.fromtimestamp(moment(), datetime.timezone.utc).strftime("%Y-%m-%d")
+
+
 def proved_by():
     """How the program was proved, or why a run is unproved."""
     why, edits = sources.judged()

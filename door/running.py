@@ -20,6 +20,19 @@ def time_of(seconds):
     return f"{seconds // 3600} h {seconds // 60 % 60} min"
 
 
+def remove(folder):
+    """Removes a folder with all that is in it, where that can be done."""
+    try:
+        for name in os.listdir(folder):
+            os.unlink(f"{folder}/{name}")
+        os.rmdir(folder)
+    except OSError:
+        # (It has folders in it.)
+        import shutil
+
+        shutil.rmtree(folder, ignore_errors=True)
+
+
 class Kept:
     """What has to go when the script ends: programs that run, a folder for what is kept meanwhile, and a file that isn't whole."""
 
@@ -52,9 +65,7 @@ class Kept:
         if self.target:
             self.target.drop()
         if self.room:
-            import shutil
-
-            shutil.rmtree(self.room, ignore_errors=True)
+            remove(self.room)
             self.room = ""
 
     def end_children(self):

@@ -1,7 +1,8 @@
-"""Which sources are as they were when a run last read them all, so that not each run does: by their size, inode and times.
+"""Which files were edited since the program was built, without reading all of them in each run: where inodes and times of change of
+all sources and of their folders are as they were in an earlier run, that run's answer holds.
 
-A file may change twice within one tick of the clock and keep its time, so one that changed shortly before it was read is read again. What
-is kept is no proof of anything: it says the same as reading all files, as long as the clock isn't turned back.
+A file may change twice within one tick of the clock and keep its time, so nothing is kept while one has just changed. What is kept is no
+proof of anything: it says the same as reading all files, as long as the clock isn't turned back.
 """
 import os
 import time
@@ -9,55 +10,66 @@ import time
 from door import sources
 from door.place import HERE, PROGRAM
 
-# How long a file has to be unchanged before it is read, in nanoseconds.
+# How long all files have to be unchanged before an answer is kept, in nanoseconds.
 SETTLED = 2_000_000_000
 KEPT = f"{PROGRAM}.seen"
 
 
-def state(name):
-    """Size, inode, device and times of a file, as text."""
-    it = os.stat(name, follow_symlinks=False)
-    return f"{it.st_size}.{it.st_ino}.{it.st_dev}.{it.st_mtime_ns}.{it.st_ctime_ns}", max(it.st_mtime_ns, it.st_ctime_ns)
+def print_of(names):
+    """One checksum of the inodes of files and folders and of when these last changed in any way, and the newest of these times. Raises
+    OSError."""
+    times, inodes, top, state = [], [], os.fsencode(HERE) + b"/", os.lstat
+    for name in names:
+        it = state(top + name)
+        times.append(it.st_ctime_ns)
+        inodes.append(it.st_ino)
+    return sources.sha256(f"{times}{inodes}".encode("ascii")).hexdigest(), max(times)
 
 
-def kept():
-    """By name the state in which each file was read, and its checksum then."""
+def watched():
+    """The names of what makes a difference: the list of crates, the folders of the program's crates, all folders and files below them, and
+    the program with what was written beside it."""
+    crates = sources.crate_lines()
+    top = [os.fsencode(f"crates/{it}") for it in crates if os.path.isdir(f"{HERE}/crates/{it}")]
+    folders = []
+    files = sources.source_files(crates, folders)
+    program = os.fsencode(PROGRAM[len(HERE) + 1 :])
+    return [b"crates.txt", program, program + b".sums", *top, *folders, *files]
+
+
+def answer_kept():
+    """The edited files that an earlier run found, or None where that can't be said."""
     try:
-        lines = sources.read(KEPT).split(b"\n")[:-1]
-        return {name: (was.decode("ascii"), digest.decode("ascii")) for was, digest, name in (it.split(b" ", 2) for it in lines)}
+        digest, edits, names = sources.read(KEPT).split(b"\n\n")
+        is_same = print_of(names.split(b"\n"))[0] == digest.decode("ascii")
     except (OSError, ValueError):
-        return {}
+        return None
+    return list(filter(None, os.fsdecode(edits).split("\n"))) if is_same else None
 
 
-def keep(states, lines):
-    """Notes the state of files with their checksums, where that can be written."""
-    digests = {name: digest for digest, _, name in (it.partition("  ") for it in lines)}
-    rows = [f"{was} {digests[os.fsdecode(name)]} ".encode("ascii") + name + b"\n" for name, was in states.items()]
+def keep(names, before, edits):
+    """Keeps an answer for the next run, where nothing has just changed and it can be written."""
     try:
+        digest, newest = print_of(names)
+        if digest != before or newest + SETTLED > time.time_ns():
+            return
         with open(f"{KEPT}-{os.getpid()}", "wb") as file:
-            file.write(b"".join(rows))
+            file.write(b"\n\n".join([digest.encode("ascii"), os.fsencode("\n".join(edits)), b"\n".join(names)]))
         os.replace(file.name, KEPT)
     except OSError:
         pass
 
 
-def sums(recorded):
-    """The lines of sources.sums. What was read is kept where that spares the next run a tenth of the files that are `recorded`."""
-    before, now, settled, top = kept(), time.time_ns(), {}, os.fsencode(HERE)
-    fresh = []
-
-    def known(name):
-        """The checksum of a file that is as it was when it was read."""
-        found, newest = state(os.path.join(top, name))
-        was, digest = before.get(name, ("", ""))
-        if newest + SETTLED < now:
-            settled[name] = found
-        if found == was:
-            return digest
-        fresh.append(name)
+def edited():
+    """The files that aren't as they were when the program was built, or None where that isn't known."""
+    found = answer_kept()
+    if found is not None:
+        return found
+    if not sources.is_whole():
         return None
-
-    lines = sources.sums(known)
-    if sum(it in settled for it in fresh) * 10 > len(recorded):
-        keep(settled, lines)
-    return lines
+    names = watched()
+    before = print_of(names)[0]
+    lines = sources.recorded()[2:]
+    found = sorted({it.split()[1] for it in {*lines} ^ {*sources.sums()}})
+    keep(names, before, found)
+    return found

@@ -43,42 +43,37 @@ def crate_lines():
     return found
 
 
-def files_in(folder, found):
-    """Adds the files below a folder, by their names from the top and as bytes."""
+def files_in(folder, found, folders):
+    """Adds the files below a folder, and it and the folders below it, by their paths as bytes."""
+    folders.append(folder)
     with os.scandir(folder) as entries:
         for it in entries:
             if it.is_dir(follow_symlinks=False):
-                files_in(it.path, found)
+                files_in(it.path, found, folders)
             elif it.is_file(follow_symlinks=False):
                 found.append(it.path)
 
 
-def source_files(crates):
-    """The files that the crates of these names are built from, in the order of their bytes."""
-    found, top = [], os.fsencode(HERE)
+def source_files(crates, folders=None):
+    """The files that the crates of these names are built from, in the order of their bytes, by their names from the top. The folders in which
+    they are come to `folders`."""
+    found, inside, top = [], [], os.fsencode(HERE)
     for crate in crates:
         for part in PARTS:
             folder = f"{HERE}/crates/{crate}/{part}"
             if os.path.isdir(folder):
-                files_in(os.fsencode(folder), found)
+                files_in(os.fsencode(folder), found, inside)
+    if folders is not None:
+        folders += [it[len(top) + 1 :] for it in inside]
     return sorted(it[len(top) + 1 :] for it in found)
 
 
-def line_of(digest, name):
-    """A line of checksums, as sha256sum writes it."""
-    return f"{digest}  {name}"
-
-
-def sums(known=None):
-    """The checksum of each file that the program is built from, and of its lines of crates.txt, a line each. `known` may answer those of
-    files that are as they were, by name."""
-    crates = crate_lines()
+def sums():
+    """The checksum of each file that the program is built from, and of its lines of crates.txt, a line each, as sha256sum writes it."""
+    crates, top = crate_lines(), os.fsencode(HERE)
     text = "".join(f"{it}\n" for it in crates.values()).encode("utf-8", "surrogateescape")
-    lines, top = [line_of(sha256(text).hexdigest(), "crates.txt")], os.fsencode(HERE)
-    for name in source_files(crates):
-        told = known(name) if known else None
-        lines.append(line_of(told or checksum(os.path.join(top, name)), os.fsdecode(name)))
-    return lines
+    files = [f"{checksum(os.path.join(top, it))}  {os.fsdecode(it)}" for it in source_files(crates)]
+    return [f"{sha256(text).hexdigest()}  crates.txt", *files]
 
 
 def recorded():
@@ -102,12 +97,9 @@ def is_whole():
 
 def changed():
     """The files that aren't as they were when the program was built, or None where that isn't known."""
-    if not is_whole():
-        return None
     from door import seen
 
-    lines = recorded()[2:]
-    return sorted({it.split()[1] for it in {*lines} ^ {*seen.sums(lines)}})
+    return seen.edited()
 
 
 def code_of(names):

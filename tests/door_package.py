@@ -8,6 +8,8 @@ import tarfile
 import tempfile
 import unittest
 
+from door import package as package_of_door
+from door import table
 from tests.answers import MADE, is_built
 from tests.house import EXAMPLES, TOP, InHouse, read, run
 from tests.words import ROWS
@@ -187,7 +189,7 @@ class Packages(Furnished):
 
     def test_needed_libraries(self):
         """which C library the package needs, and that a program that needs more isn't packed"""
-        ask = lambda program, what: run(["bash", "-c", f'. "$0/door/package.bash"; {what} {program}', TOP]).out.strip()
+        ask = lambda program, what: getattr(package_of_door, what)(program)
         newest = max(re.findall(rb"GLIBC_2\.(\d+)", read("/bin/true")), key=int).decode()
         self.assertEqual(ask("/bin/true", "needed_packages"), f"libc6 (>= 2.{newest})")
         self.assertEqual(ask("/bin/true", "other_libraries"), "")
@@ -296,12 +298,10 @@ class Pages(Furnished):
         how = {"env": {**SYSTEM, "MANWIDTH": "200", "MAN_KEEP_FORMATTING": "", "MANROFFOPT": "-ww"}}
         ran = run(["man", "--warnings=w", "-E", "UTF-8", "-l", page], **how).gives(0, None, "")
         text = re.sub(r"\x1b\[[0-9;]*m|.\x08", "", ran.out)
-        table = read(f"{TOP}/door/tables.bash").decode()
-        for name in ("commands", "helpers", "own", "values"):
-            part = re.search(rf"^{name}=\(\n(.*?)^\)", table, re.M | re.S)[1]
-            for row in part.strip().split("\n\n"):
-                words = re.match(r"\s*'([^']*)'", row)[1]
-                self.assertTrue(re.search(rf"^ +{re.escape(words.split(' ')[0])}\b", text, re.M), f"the page lacks {words}")
+        rows = [*table.COMMANDS, *table.HELPERS, *table.OWN, *table.VALUES]
+        self.assertGreater(len(rows), 30)
+        for words, *_ in rows:
+            self.assertTrue(re.search(rf"^ +{re.escape(words.split(' ')[0])}\b", text, re.M), f"the page lacks {words}")
         for status in statuses_of_formats():
             self.assertTrue(re.search(rf"^ +{status} ", text.split("EXIT STATUS")[1], re.M), f"the page lacks status {status}")
         self.assertTrue(read(page).count(b"\n.TP\n") >= 30 and "osp \N{HYPHEN}" not in text, "hyphens can't be copied")
@@ -310,8 +310,7 @@ class Pages(Furnished):
 
     def test_statuses(self):
         """the table of statuses is that of docs/FORMATS.md"""
-        part = re.search(r"^statuses=\(\n(.*?)^\)", read(f"{TOP}/door/tables.bash").decode(), re.M | re.S)[1]
-        self.assertEqual(re.findall(r"^  (\d+) '", part, re.M), statuses_of_formats(), "they differ")
+        self.assertEqual([str(it) for it, _ in table.STATUSES], statuses_of_formats(), "they differ")
 
     def test_completion(self):
         """completion completes commands, options and their values, and leaves files to bash"""
