@@ -9,6 +9,8 @@ from door.saying import shown, wrong
 DIGITS = frozenset("0123456789")
 LETTERS = frozenset("abcdefghijklmnopqrstuvwxyzABCDEFGHIJKLMNOPQRSTUVWXYZ0123456789_-")
 LONGEST_NAME = 24
+# No file's name has more letters, and no other word that a helper takes.
+LONGEST_WORD = 4096
 
 
 class PageWanted(Exception):
@@ -196,4 +198,6 @@ def of_helper(given):
             words, left = [*words, word, *left], []
         else:
             words.append(word)
+    if long := next((it for it in words if len(it) > LONGEST_WORD), None):
+        wrong(f"{shown(long)} is no word of {given[0]}: the longest has {LONGEST_WORD} letters")
     return words, target
