@@ -11,7 +11,7 @@ import unittest
 from door import package as package_of_door
 from door import table
 from tests.answers import MADE, is_built
-from tests.house import EXAMPLES, TOP, InHouse, read, run
+from tests.house import EXAMPLES, FAILED, TOP, InHouse, read, run
 from tests.words import ROWS
 
 # The folders of the system alone: neither the kit nor an osp is there.
@@ -257,6 +257,35 @@ class Packages(Furnished):
         run([script, "install", prefix], env={**SYSTEM, "TMPDIR": self.house.tmp}).gives(0)
         self.everything_runs(f"{prefix}/bin/osp", prefix, sums)
         self.assertTrue(read(f"{prefix}/share/man/man1/osp.1").decode().count(f"{prefix}/share/doc/osp".replace("-", "\\-")) >= 2, "the page names other documents")
+
+    def test_no_name(self):
+        """an installation, or a release, in a folder without a name is refused, and nothing is written"""
+        self.furnished()
+        before = sorted(os.listdir(self.house.tmp))
+        self.house.run("install", "").refuses("'' is no folder: it is spelled ./osp install [PREFIX]")
+        self.house.run("release", "").refuses("'' is no folder: it is spelled ./osp release [FOLDER]")
+        self.assertEqual(sorted(os.listdir(self.house.tmp)), before)
+
+    def test_full_disk(self):
+        """an installation on a full disk leaves nothing, or what was there as it was: one line, status 70"""
+        if os.geteuid() != 0 or subprocess.run(["unshare", "-m", "true"], capture_output=True, check=False).returncode:
+            self.skipTest("a small disk can be made by root alone")
+        self.furnished()
+        disk = f"{self.house.at}/disk"
+        os.makedirs(disk)
+        # What is done before, and then what is installed and its status, and what is left.
+        line = 'mount -t tmpfs -o size=%s none "$0" && { %s; } && { "$@"; status=$?; cd "$0" && find . | sort | tail -n +2; exit $status; }'
+        tell = lambda size, before: run(["unshare", "-m", "sh", "-c", line % (size, before), disk, self.house.script, "install", f"{disk}/a prefix"], **self.house.how())
+        # (The smallest has room for a few files, the next ones for more and more of them, and the last for all.)
+        said = "nothing was installed: there is no room left in"
+        for size in ("16k", "100k", "200k", "300k", "400k"):
+            tell(size, "true").gives(FAILED, "", said)
+        self.assertIn("./a prefix/lib/osp/program/osp\n", tell("64m", "true").gives(0).out)
+        older = 'mkdir -p "$0/a prefix/lib/osp" && echo older > "$0/a prefix/lib/osp/RELEASE"'
+        for size in ("40k", "400k"):
+            tell(size, older).gives(FAILED, "./a prefix\n./a prefix/lib\n./a prefix/lib/osp\n./a prefix/lib/osp/RELEASE\n", said)
+        self.assertIn("./a prefix/lib/osp/program/osp\n", tell("64m", older).gives(0).out)
+        self.house.leaves_nothing()
 
     def test_files_of_others(self):
         """an installation replaces nothing of others, and is refused where it can't be written: one line, status 70"""
