@@ -1,4 +1,4 @@
-"""What a helper writes: to standard output, whole, or to a file that is replaced whole or stays as it was (door.files, as the script does)."""
+"""What a helper writes: to standard output, whole, or to a file that is replaced whole or stays as it was, as the script writes it."""
 import sys
 
 from desk import stopping

@@ -1,6 +1,5 @@
 """./osp build: proves and builds the program; and what stands here: its version, its commit, and how it was proved."""
 import datetime
-import hashlib
 import os
 import subprocess
 import sys
@@ -46,7 +45,8 @@ def commit():
     if IS_RELEASE:
         with open(f"{HERE}/RELEASE", encoding="utf-8") as file:
             return next((it.removeprefix("commit ").rstrip("\n") for it in file if it.startswith("commit ")), "")
-    if quiet("git", "-C", HERE, "rev-parse", "--show-toplevel") != HERE or not (name := quiet("git", "-C", HERE, "rev-parse", "--short=12", "HEAD")):
+    name = quiet("git", "-C", HERE, "rev-parse", "--short=12", "HEAD")
+    if not name or quiet("git", "-C", HERE, "rev-parse", "--show-toplevel") != HERE:
         return "unknown"
     edits = quiet("git", "-C", HERE, "status", "--porcelain", env={**os.environ, "GIT_OPTIONAL_LOCKS": "0"})
     return f"{name}, with edits" if edits else name
@@ -109,7 +109,7 @@ def is_made(ending):
     made = f"{PROGRAM}.{ending}"
     if not os.path.isfile(made) or not os.path.isfile(f"{made}.sums"):
         return False
-    return sources.read(f"{made}.sums").decode("utf-8", "replace").split() == [hashlib.sha256(sources.read(it)).hexdigest() for it in (PROGRAM, made)]
+    return sources.read(f"{made}.sums").decode("utf-8", "replace").split() == [sources.checksum(it) for it in (PROGRAM, made)]
 
 
 def build_web():

@@ -255,17 +255,20 @@ class Target:
 
 
 def seeing(told):
-    """What is called at each opening of a file in this process: it raises IsTarget where that is read and is the file that was told, or what
-    standard output goes to."""
+    """What is called at each opening of a file in this process: it raises IsTarget where that is read and is the file that was told, which
+    is the one behind -o, or without a name what standard output goes to."""
     device, inode, name = told.split(":", 2)
     wanted = int(device), int(inode)
 
     def see(event, given):
+        """Sees an opening."""
         if event != "open" or not isinstance(given[2], int) or given[2] & os.O_ACCMODE == os.O_WRONLY:
             return
         if identity(given[0]) == wanted:
-            said = f"-o {shown(name)} names a file that is read: give another name"
-            raise IsTarget(said if name else f"standard output goes to {shown(os.fsdecode(str(given[0])))}, which is read: give it another file")
+            if name:
+                raise IsTarget(f"-o {shown(name)} names a file that is read: give another name")
+            word = "a file" if isinstance(given[0], int) else shown(os.fsdecode(given[0]))
+            raise IsTarget(f"standard output goes to {word}, which is read: give it another file")
 
     return see
 

@@ -94,8 +94,8 @@ def name_other(status, other, sorted_words):
     """Behind a refusal names the command that takes what was given, if there is one."""
     if status == 4 and other:
         what = "a plan" if other == "check" else "a gap plan"
-        names = " ".join(map(shown, sorted_words.files))
-        tell(f"osp: {shown(sorted_words.files[1])} is {what}, which {sorted_words.command} does not read: {called()} {other} {names} reads it")
+        scenario, plan = map(shown, sorted_words.files)
+        tell(f"osp: {plan} is {what}, which {sorted_words.command} does not read: {called()} {other} {scenario} {plan} reads it")
 
 
 def name_explain(status, sorted_words, reads_standard):

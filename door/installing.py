@@ -40,8 +40,8 @@ def write(name, text):
 
 
 def copy_folder(start, end):
-    """Copies the files of a folder, without what other programs left there: those of a repository, or of what was made of it, whose programs
-    may be run still. Raises OSError."""
+    """Copies the files of a folder, of a repository or of what was made of it, without what other programs left there. A program can be run
+    still. Raises OSError."""
     os.makedirs(end, exist_ok=True)
     for name in sorted(os.listdir(start)):
         if name == "__pycache__" or name.startswith(".") or name.endswith(("~", ".pyc")):
@@ -49,7 +49,8 @@ def copy_folder(start, end):
         if os.path.isdir(f"{start}/{name}"):
             copy_folder(f"{start}/{name}", f"{end}/{name}")
         else:
-            copy_file(0o755 if os.stat(f"{start}/{name}").st_mode & 0o100 and name == "osp" else 0o644, f"{start}/{name}", f"{end}/{name}")
+            is_program = name == "osp" and os.access(f"{start}/{name}", os.X_OK)
+            copy_file(0o755 if is_program else 0o644, f"{start}/{name}", f"{end}/{name}")
 
 
 def program_for(machine):
@@ -61,7 +62,8 @@ def sums_for(machine):
     """Its sums: how it came to be, its checksum, and the checksums of its sources."""
     how, own, *rest = sources.recorded()
     if machine != MACHINE:
-        how, own = f"{how}, and for {machine} from the same module of LLVM (tried in an emulator alone)", sources.checksum(program_for(machine))
+        how = f"{how}, and for {machine} from the same module of LLVM (tried in an emulator alone)"
+        own = sources.checksum(program_for(machine))
     return "".join(f"{it}\n" for it in (how, own, *rest))
 
 

@@ -16,10 +16,10 @@ def need(what):
 def name():
     """What this kit calls itself, or ""."""
     try:
-        told = subprocess.run(["rt", "version"], stdin=subprocess.DEVNULL, stdout=subprocess.PIPE, stderr=subprocess.DEVNULL, check=False).stdout
+        done = subprocess.run(["rt", "version"], stdin=subprocess.DEVNULL, capture_output=True, check=False)
     except OSError:
         return ""
-    return os.fsdecode(told).rstrip("\n").split(" ")[0]
+    return os.fsdecode(done.stdout).rstrip("\n").split(" ")[0]
 
 
 def known():

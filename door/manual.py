@@ -4,20 +4,20 @@ from door.pages import value_text
 from door.words import usage_of
 
 ABOUT = (
-    "A boat, a drone or an aircraft goes from cell to cell and looks for somebody who drifts. osp computes the path that is likeliest to find "
-    "them within so many periods, with its exact chance and a record of why no path is better, and checks such plans."
+    "A boat, a drone or an aircraft goes from cell to cell and looks for somebody who drifts. osp computes the path that is likeliest to "
+    "find them within so many periods, with its exact chance and a record of why no path is better, and checks such plans."
 )
 PROVED = (
-    "What its commands write is proved, down to the bytes that they read and write. The helpers stand before and behind the proved program; "
-    "they are tested."
+    "What its commands write is proved, down to the bytes that they read and write. The helpers stand before and behind the proved "
+    "program; they are tested."
 )
 TARGET = (
-    "What is written goes to this file, whole or not at all: a file beside it takes its place at the end. Where the command refuses, the file "
-    "stays as it was. Of a symbolic link, the file that it names is replaced."
+    "What is written goes to this file, whole or not at all: a file beside it takes its place at the end. Where the command refuses, the "
+    "file stays as it was. Of a symbolic link, the file that it names is replaced."
 )
 INPUT = (
-    "Files may stand anywhere behind the command. Where none is named, standard input is read: a scenario, and for the commands that judge, a "
-    "plan behind it. The name - stands for standard input, and -- ends the options, so that what follows are files. Behind flown and start "
+    "Files may stand anywhere behind the command. Where none is named, standard input is read: a scenario, and for the commands that "
+    "judge, a plan behind it. The name - stands for standard input, and -- ends the options, so that what follows are files. Behind flown and start "
     "stand names of positions alone: files and options come before."
 )
 ENDS = "These are those of the commands; a helper ends with 0 where it wrote its answer, and explain as the program itself ends."

@@ -67,8 +67,8 @@ def libraries(program):
 
 
 def needed_packages(program):
-    """The Debian packages that these are in: the C library of the newest version whose symbols are named, and the library of the compiler, on
-    which the C library's package stands, too."""
+    """The Debian packages that these are in: the C library of the newest version whose symbols are named, and the library of the compiler,
+    on which the C library's package stands, too."""
     versions = {it.decode("ascii") for it in SYMBOLS.findall(sources.read(program))}
     newest = max(versions, key=lambda it: tuple(map(int, it.split("."))), default="")
     more = ", libgcc-s1" if "libgcc_s.so.1" in libraries(program) else ""
@@ -119,8 +119,8 @@ def md5sums(to):
     found = []
     for at, _, names in os.walk(f"{to}/usr"):
         found += [os.path.relpath(os.path.join(at, it), to) for it in names if not os.path.islink(os.path.join(at, it))]
-    lines = [f"{hashlib.md5(sources.read(f'{to}/{it}'), usedforsecurity=False).hexdigest()}  {it}\n" for it in sorted(found, key=os.fsencode)]
-    return os.fsencode("".join(lines))
+    digest = lambda name: hashlib.md5(sources.read(f"{to}/{name}"), usedforsecurity=False).hexdigest()
+    return os.fsencode("".join(f"{digest(it)}  {it}\n" for it in sorted(found, key=os.fsencode)))
 
 
 def put_debian(to, machine):

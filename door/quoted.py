@@ -1,6 +1,6 @@
 """A word as a shell takes it, as bash's `printf %q` writes it; and a long one cut short."""
 
-ESCAPES = {"\a": "\\a", "\b": "\\b", "\x1b": "\\E", "\f": "\\f", "\n": "\\n", "\r": "\\r", "\t": "\\t", "\v": "\\v", "\\": "\\\\", "'": "\\'"}
+ESCAPES = {"\a": "a", "\b": "b", "\x1b": "E", "\f": "f", "\n": "n", "\r": "r", "\t": "t", "\v": "v", "\\": "\\", "'": "'"}
 # What a shell would take for something else.
 SPECIAL = frozenset(" !\"$&'()*,;<>?[\\]^`{|}")
 # How many letters of a word are shown where it has more, and how many it may have.
@@ -10,7 +10,7 @@ FIRST, MOST = 60, 300
 def escaped(letter):
     """A letter between $' and '."""
     if letter in ESCAPES:
-        return ESCAPES[letter]
+        return f"\\{ESCAPES[letter]}"
     if letter.isprintable():
         return letter
     return "".join(f"\\{it:03o}" for it in letter.encode("utf-8", "surrogateescape"))

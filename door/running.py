@@ -220,7 +220,7 @@ def run_instead(words):
 
 
 def run_whole(words, is_typed, is_last):
-    """Runs what answers for its own streams, and answers its exit status. It takes the script's place where nothing is left to do behind."""
+    """Runs what answers for its own streams, and answers its exit status. It takes the script's place where nothing is left to do."""
     if is_last and not KEPT.target and not os.isatty(2):
         run_instead(words)
     return observe(words, is_typed)

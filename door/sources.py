@@ -32,6 +32,7 @@ def crate_lines():
             lines[line.split()[0]] = line
 
     def visit(name):
+        """Adds a crate behind those that it names."""
         if name in lines and name not in seen:
             seen.add(name)
             for it in lines[name].split()[1:]:
@@ -55,8 +56,8 @@ def files_in(folder, found, folders):
 
 
 def source_files(crates, folders=None):
-    """The files that the crates of these names are built from, in the order of their bytes, by their names from the top. The folders in which
-    they are come to `folders`."""
+    """The files that the crates of these names are built from, in the order of their bytes, by their names from the top. The folders in
+    which they are come to `folders`."""
     found, inside, top = [], [], os.fsencode(HERE)
     for crate in crates:
         for part in PARTS:

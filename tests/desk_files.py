@@ -1,5 +1,5 @@
-"""Tests that no helper writes to a file that it reads, by whichever name, and that what is read stays as it was: by the front door, with the
-helpers as they are."""
+"""Tests that no helper writes to a file that it reads, by whichever name, and that what is read stays as it was: by the front door, with
+the helpers as they are."""
 import hashlib
 import os
 import shutil
