@@ -124,11 +124,17 @@ def end_of(process):
     return os.waitstatus_to_exitcode(status)
 
 
+def killed(words, number):
+    """Ends the script where what it ran, the program or a helper, was ended by a signal."""
+    helper = next((behind for it, behind in zip(words, words[1:]) if it.endswith("/desk/__main__.py")), "")
+    fail(f"{helper or os.path.basename(words[0])} was ended by {signals.name_of(number)}, and wrote no answer")
+
+
 def attend(words, **how):
     """Runs a program, and answers its exit status. Ends the script where a signal ended it."""
     status = end_of(begin(words, **how))
     if status < 0:
-        fail(f"{os.path.basename(words[0])} was ended by {signals.name_of(-status)}, and wrote no answer")
+        killed(words, -status)
     return status
 
 
@@ -199,7 +205,7 @@ def observe(words, is_typed):
     except OSError:
         pass
     if status < 0:
-        fail(f"{os.path.basename(words[0])} was ended by {signals.name_of(-status)}, and wrote no answer")
+        killed(words, -status)
     if shown:
         try:
             show_file(f"{room}/out", 1)

@@ -254,13 +254,15 @@ class Output(InHouse):
         run([self.house.script, "plan", "lake\n", "-o", "lake\n"], **how).fails(r"-o $'lake\n' names a file that is read")
 
     def test_killed(self):
-        """a program that is killed while its output is kept: one line, status 70, and an older file stays"""
+        """a program or a helper that is killed while its output is kept: one line, status 70, and an older file stays"""
         folder = self.out_folder()
         self.house.write("out put/plan", "older\n")
         self.house.write("program", '#!/bin/sh\n[ -e "$HOUSE/is built" ] || { echo "words <plan>"; exec cat; }\necho half; kill -s KILL $$\n', 0o755)
         self.house.built()
         self.house.write("is built", "")
-        self.house.run("plan", "-o", f"{folder}/plan").fails("osp was ended by SIGKILL, and wrote no answer")
+        self.house.write("desk/__main__.py", "import os\nprint('half', flush=True)\nos.kill(os.getpid(), 9)\n")
+        self.house.run("plan", "-o", f"{folder}/plan").fails("osp: osp was ended by SIGKILL, and wrote no answer")
+        self.house.run("show", "a", "-o", f"{folder}/plan").fails("osp: show was ended by SIGKILL, and wrote no answer")
         self.assertWritten(f"{folder}/plan", "older\n")
         self.assertEqual(os.listdir(folder), ["plan"])
 
