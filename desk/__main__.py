@@ -8,6 +8,7 @@ if not __package__:
     sys.path.insert(0, os.path.dirname(os.path.dirname(os.path.realpath(__file__))))
 
 from desk import stopping  # noqa: E402
+from door import files  # noqa: E402
 
 # The helpers by name, and the module of each, whose `main` takes the words behind the name and answers the exit status.
 HELPERS = {
@@ -37,16 +38,29 @@ def stopped(name, number):
     stopping.end_by(number)
 
 
+def refused(why):
+    """Ends where a file was opened for reading that is written to, with the script's status and line."""
+    from desk import program, running
+    from desk.status import Status
+
+    program.RUNS.end_all()
+    running.say(f"osp: {why}")
+    return Status.FAILED
+
+
 def main(words):
     """Runs the helper that the first word names, and answers its exit status."""
     if not words or words[0] not in HELPERS:
         print(f"usage: python3 -m desk {'|'.join(HELPERS)} WORDS..", file=sys.stderr)
         return 2
+    files.guard()
     stopping.watch()
     try:
         return importlib.import_module(HELPERS[words[0]]).main(words[1:])
     except stopping.Stopped as it:
         return stopped(words[0], it.number)
+    except files.IsTarget as it:
+        return refused(it)
 
 
 if __name__ == "__main__":

@@ -15,6 +15,7 @@ from unittest import mock
 
 from desk import __main__ as desk
 from desk import explain, faults, forms, layout, limits, page, paths, quoting, status, wording, writing
+from door import table
 from tests.pages import EXAMPLES, IS_BUILT, TOP, example, read, walks
 
 OSP = f"{TOP}/osp"
@@ -43,13 +44,6 @@ look b b 1
 look c a 0
 end
 """
-
-
-def helpers():
-    """The rows of the front door's table of helpers: words, what they do, an example."""
-    told = subprocess.run(["bash", "-c", '. door/tables.bash; printf "%s\\0" "${helpers[@]}"'], cwd=TOP, capture_output=True, check=True).stdout
-    parts = told.decode().split("\0")[:-1]
-    return [tuple(parts[at : at + 3]) for at in range(0, len(parts), 3)]
 
 
 class Strained(unittest.TestCase):
@@ -367,7 +361,7 @@ class Made(Strained):
 class Words(Strained):
     def test_each_has_its_own_page(self):
         """The usage line and what it does are those of the front door's table; a page is as wide on each terminal."""
-        rows = helpers()
+        rows = table.HELPERS
         self.assertEqual({it[0].split()[0] for it in rows} | {"alone"}, set(desk.HELPERS))
         for words, does, _ in rows:
             name = words.split()[0]

@@ -1,13 +1,18 @@
 """Files by name, which the script `osp` reads, and what -o writes."""
 import os
+import random
 import stat
 import subprocess
+import sys
+import tempfile
+import unittest
 
-from tests.house import SIGNALS, UNPROVED, InHouse, run
+from door import files, quoted
+from tests.house import SIGNALS, TOP, UNPROVED, InHouse, read, run
 
 SCENARIO, PLAN = "the scenario\n", "the plan\n"
 # Names that a careless script would take for something else.
-NAMES = ["lake", "a lake", " ", "-lake", "--workers", "lake*", "$HOME", "lake\nof mine", "läke", "'", 'a"b', "\\"]
+NAMES = ["lake", "a lake", " ", "-lake", "--workers", "lake*", "$HOME", "lake\nof mine", "lake\n", "\n", "lake\x1b[2J", "läke", "'", 'a"b', "\\"]
 
 
 def named(name):
@@ -87,6 +92,24 @@ class Named(InHouse):
         run(["bash", "-c", line], **self.house.how()).gives(0, f"check\n{as_read(lake, plan)}", "")
         self.house.run("check", given=lake + plan).gives(0, f"check\n{as_read(lake, plan)}", "")
         self.house.leaves_nothing()
+
+    def test_both_in_one(self):
+        """a pipe, or standard input by -, may have a scenario and its plan behind it, where a file may"""
+        reader(self.house).built()
+        both = f"check\n{as_read(SCENARIO.encode(), PLAN.encode())}"
+        line = f"'{self.house.script}' check <(printf 'the scenario\\nthe plan\\n')"
+        run(["bash", "-c", line], **self.house.how()).gives(0, both, "")
+        self.house.run("check", "-", given=SCENARIO.encode() + PLAN.encode()).gives(0, both, "")
+        self.house.write("lake", SCENARIO)
+        self.house.run("check", f"{self.house.at}/lake").refuses("is one file alone")
+
+    def test_long_names(self):
+        """a name of 100,000 letters is told in one short line"""
+        name = "a" * 100_000
+        for words in (["plan", name], ["check", "-", name], ["plan", "-o", name], ["show", "lake", "-o", name]):
+            self.assertLess(len(self.house.run(*words).fails(" .. (100000 letters)").err), 200)
+        for words in ([name], ["plan", f"--{name}"], ["map", "flown", name], ["make", name], ["show", name], ["explain", "a", "flown", name], ["build", name]):
+            self.assertLess(len(self.house.run(*words).refuses("letters)").err), 250)
 
     def test_unreadable(self):
         """no file, a folder, a device, or a file that may not be read: one line, status 70, and nothing is compiled"""
@@ -220,6 +243,29 @@ class Output(InHouse):
         self.assertWritten(f"{self.house.at}/lake", SCENARIO)
         self.assertWritten(f"{self.house.at}/plan", PLAN)
 
+    def test_name_with_a_line_feed(self):
+        """a line feed at the end of a name behind -o is a part of it: another file is written, and the one without it stays"""
+        self.house.built()
+        self.house.write("lake", SCENARIO)
+        how = {**self.house.how(), "cwd": self.house.at}
+        run([self.house.script, "plan", "lake", "-o", "lake\n"], **how).gives(0, "", "")
+        self.assertWritten(f"{self.house.at}/lake", SCENARIO)
+        self.assertWritten(f"{self.house.at}/lake\n", f"words <plan>\n{SCENARIO}")
+        run([self.house.script, "plan", "lake\n", "-o", "lake\n"], **how).fails(r"-o $'lake\n' names a file that is read")
+
+    def test_killed(self):
+        """a program or a helper that is killed while its output is kept: one line, status 70, and an older file stays"""
+        folder = self.out_folder()
+        self.house.write("out put/plan", "older\n")
+        self.house.write("program", '#!/bin/sh\n[ -e "$HOUSE/is built" ] || { echo "words <plan>"; exec cat; }\necho half; kill -s KILL $$\n', 0o755)
+        self.house.built()
+        self.house.write("is built", "")
+        self.house.write("desk/__main__.py", "import os\nprint('half', flush=True)\nos.kill(os.getpid(), 9)\n")
+        self.house.run("plan", "-o", f"{folder}/plan").fails("osp: osp was ended by SIGKILL, and wrote no answer")
+        self.house.run("show", "a", "-o", f"{folder}/plan").fails("osp: show was ended by SIGKILL, and wrote no answer")
+        self.assertWritten(f"{folder}/plan", "older\n")
+        self.assertEqual(os.listdir(folder), ["plan"])
+
     def test_full_disk(self):
         """-o onto a full disk: one line or the program's, nothing is left, and an older file stays"""
         if os.geteuid() != 0 or subprocess.run(["unshare", "-m", "true"], capture_output=True, check=False).returncode:
@@ -246,3 +292,113 @@ class Output(InHouse):
             self.assertEqual(os.listdir(folder), ["plan"])
         self.assertWritten(f"{folder}/plan", "older\n")
         self.house.leaves_nothing()
+
+
+class Environment(InHouse):
+    """What a shell would take from the environment."""
+
+    def test_changes_nothing(self):
+        """a locale that isn't there, and what means something to bash, change nothing and are not told"""
+        self.house.built()
+        self.house.write("lake", SCENARIO)
+        self.house.write("begins", "echo from the environment\n")
+        wanted = f"words <plan>\n{SCENARIO}"
+        for more in ({"LC_ALL": "xx_YY.nowhere"}, {"FUNCNEST": "2"}, {"IFS": "aeo/"}, {"BASH_ENV": f"{self.house.at}/begins"}, {"ENV": f"{self.house.at}/begins"}, {"BASH_FUNC_readlink%%": "() { echo /; }"}, {"OSP": ""}, {"POSIXLY_CORRECT": "1"}, {"PYTHONPATH": f"{self.house.at}/nowhere"}, {"OSP_TARGET": "1:2:a"}):
+            how = self.house.how(with_rt=False)
+            how["env"] = {**how["env"], **more}
+            run([self.house.script, "plan", f"{self.house.at}/lake"], **how).gives(0, wanted, "")
+            run([self.house.script, "show", "a"], **how).gives(0, f"show|a\n{self.house.at}/desk {self.house.at} True\n", "")
+
+
+class Same(unittest.TestCase):
+    """door.files: which files are one."""
+
+    def setUp(self):
+        room = tempfile.TemporaryDirectory(prefix="front-door-")
+        self.addCleanup(room.cleanup)
+        self.room = room.name
+
+    def path(self, name, text=""):
+        with open(f"{self.room}/{name}", "w", encoding="utf-8") as file:
+            file.write(text)
+        return file.name
+
+    def target(self, name):
+        """What is written, which is let go of at the end."""
+        found = files.Target(name)
+        self.addCleanup(lambda: os.close(found.held) if found.held not in (None, 1) else None)
+        return found
+
+    def test_each_name(self):
+        """a file is the same by each name: its own, a link's, a hard link's, from another folder"""
+        target = self.target(self.path("a"))
+        os.link(f"{self.room}/a", f"{self.room}/hard")
+        os.symlink("a", f"{self.room}/soft")
+        for name in ("a", "hard", "soft", "../" + os.path.basename(self.room) + "/a"):
+            self.assertTrue(target.is_one(f"{self.room}/{name}"), name)
+        self.assertFalse(target.is_one(self.path("b")))
+        self.assertFalse(target.is_one(f"{self.room}/none"))
+
+    def test_no_inode_is_taken_again(self):
+        """a file that comes after another one is gone isn't taken for it, whatever its inode: as long as what is written is held, no other
+        file gets its inode"""
+        target = self.target(self.path("a", "older"))
+        was = files.identity(f"{self.room}/a")
+        os.unlink(f"{self.room}/a")
+        for number in range(200):
+            name = self.path(f"a{number}", "newer")
+            self.assertNotEqual(files.identity(name), was)
+            self.assertFalse(target.is_one(name))
+
+    def test_an_inode_that_comes_again(self):
+        """a file that was read and is gone leaves its inode to one that is written then: that isn't refused"""
+        # (The very same inode: the file that was read gets the new name, as a file system may do it with the number.)
+        read_before = self.path("read", "text")
+        target = self.target(f"{self.room}/new")
+        with open(read_before, "rb") as file:
+            target.see_input(file.fileno())
+        os.rename(read_before, f"{self.room}/new")
+        target.see([])
+        target.open()
+        os.write(target.descriptor, b"whole")
+        target.keep()
+        self.assertEqual(read(f"{self.room}/new"), b"whole")
+        self.assertEqual(os.listdir(self.room), ["new"])
+
+    def test_guard(self):
+        """in a process that must not read a file, opening it is stopped by each name, opening others and writing aren't"""
+        name = self.path("a", "text")
+        os.link(name, f"{self.room}/hard")
+        lines = f"""import os, sys
+sys.path.insert(0, {TOP!r})
+from door import files
+files.guard()
+open({self.path("b")!r}).close()
+os.close(os.open({name!r}, os.O_WRONLY))
+for ask in (lambda it: open(it), lambda it: os.open(it, os.O_RDONLY), lambda it: open(it, "r+b")):
+    try:
+        ask({self.room!r} + "/hard")
+    except files.IsTarget as why:
+        print(why)
+"""
+        told = "{}:{}:{}".format(*files.identity(name), "a b")
+        ran = run([sys.executable, "-c", lines], env={"OSP_TARGET": told})
+        ran.gives(0, "-o a\\ b names a file that is read: give another name\n" * 3, "")
+
+
+class Quoted(unittest.TestCase):
+    """door.quoted: a word as bash's printf writes it."""
+
+    def test_as_bash_writes_it(self):
+        """words with all sorts of letters are quoted as bash quotes them"""
+        letters = "abcZ09 _-+=.,/:~#!@$%^&*()[]{}<>?|;'\"\\`\n\t\x1b\x01\x7f\u00e4\u00df\u20ac\r\v"
+        draws = random.Random(61)
+        words = ["", "~", "a:~", "a~", "#", "a#", *("".join(draws.choices(letters, k=draws.randint(1, 6))) for _ in range(2000))]
+        told = subprocess.run(["bash", "-c", 'printf "%q\\0" "$@"', "bash", *words], env={"LC_ALL": "C.UTF-8", "PATH": "/usr/bin:/bin"}, capture_output=True, check=True).stdout
+        for word, wanted in zip(words, told.decode().split("\0")):
+            self.assertEqual(quoted.quoted(word), wanted)
+
+    def test_what_steers_a_terminal(self):
+        """a letter that turns others around is an escape, also where bash shows it"""
+        self.assertEqual(quoted.shown("a\u202eb"), r"$'a\342\200\256b'")
+        self.assertEqual(quoted.shown("a\udc80"), r"$'a\200'")

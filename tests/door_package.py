@@ -8,8 +8,10 @@ import tarfile
 import tempfile
 import unittest
 
+from door import package as package_of_door
+from door import table
 from tests.answers import MADE, is_built
-from tests.house import EXAMPLES, TOP, InHouse, read, run
+from tests.house import EXAMPLES, FAILED, TOP, InHouse, read, run
 from tests.words import ROWS
 
 # The folders of the system alone: neither the kit nor an osp is there.
@@ -187,7 +189,7 @@ class Packages(Furnished):
 
     def test_needed_libraries(self):
         """which C library the package needs, and that a program that needs more isn't packed"""
-        ask = lambda program, what: run(["bash", "-c", f'. "$0/door/package.bash"; {what} {program}', TOP]).out.strip()
+        ask = lambda program, what: getattr(package_of_door, what)(program)
         newest = max(re.findall(rb"GLIBC_2\.(\d+)", read("/bin/true")), key=int).decode()
         self.assertEqual(ask("/bin/true", "needed_packages"), f"libc6 (>= 2.{newest})")
         self.assertEqual(ask("/bin/true", "other_libraries"), "")
@@ -256,6 +258,35 @@ class Packages(Furnished):
         self.everything_runs(f"{prefix}/bin/osp", prefix, sums)
         self.assertTrue(read(f"{prefix}/share/man/man1/osp.1").decode().count(f"{prefix}/share/doc/osp".replace("-", "\\-")) >= 2, "the page names other documents")
 
+    def test_no_name(self):
+        """an installation, or a release, in a folder without a name is refused, and nothing is written"""
+        self.furnished()
+        before = sorted(os.listdir(self.house.tmp))
+        self.house.run("install", "").refuses("'' is no folder: it is spelled ./osp install [PREFIX]")
+        self.house.run("release", "").refuses("'' is no folder: it is spelled ./osp release [FOLDER]")
+        self.assertEqual(sorted(os.listdir(self.house.tmp)), before)
+
+    def test_full_disk(self):
+        """an installation on a full disk leaves nothing, or what was there as it was: one line, status 70"""
+        if os.geteuid() != 0 or subprocess.run(["unshare", "-m", "true"], capture_output=True, check=False).returncode:
+            self.skipTest("a small disk can be made by root alone")
+        self.furnished()
+        disk = f"{self.house.at}/disk"
+        os.makedirs(disk)
+        # What is done before, and then what is installed and its status, and what is left.
+        line = 'mount -t tmpfs -o size=%s none "$0" && { %s; } && { "$@"; status=$?; cd "$0" && find . | sort | tail -n +2; exit $status; }'
+        tell = lambda size, before: run(["unshare", "-m", "sh", "-c", line % (size, before), disk, self.house.script, "install", f"{disk}/a prefix"], **self.house.how())
+        # (The smallest has room for a few files, the next ones for more and more of them, and the last for all.)
+        said = "nothing was installed: there is no room left in"
+        for size in ("16k", "100k", "200k", "300k", "400k"):
+            tell(size, "true").gives(FAILED, "", said)
+        self.assertIn("./a prefix/lib/osp/program/osp\n", tell("64m", "true").gives(0).out)
+        older = 'mkdir -p "$0/a prefix/lib/osp" && echo older > "$0/a prefix/lib/osp/RELEASE"'
+        for size in ("40k", "400k"):
+            tell(size, older).gives(FAILED, "./a prefix\n./a prefix/lib\n./a prefix/lib/osp\n./a prefix/lib/osp/RELEASE\n", said)
+        self.assertIn("./a prefix/lib/osp/program/osp\n", tell("64m", older).gives(0).out)
+        self.house.leaves_nothing()
+
     def test_files_of_others(self):
         """an installation replaces nothing of others, and is refused where it can't be written: one line, status 70"""
         self.furnished()
@@ -296,12 +327,10 @@ class Pages(Furnished):
         how = {"env": {**SYSTEM, "MANWIDTH": "200", "MAN_KEEP_FORMATTING": "", "MANROFFOPT": "-ww"}}
         ran = run(["man", "--warnings=w", "-E", "UTF-8", "-l", page], **how).gives(0, None, "")
         text = re.sub(r"\x1b\[[0-9;]*m|.\x08", "", ran.out)
-        table = read(f"{TOP}/door/tables.bash").decode()
-        for name in ("commands", "helpers", "own", "values"):
-            part = re.search(rf"^{name}=\(\n(.*?)^\)", table, re.M | re.S)[1]
-            for row in part.strip().split("\n\n"):
-                words = re.match(r"\s*'([^']*)'", row)[1]
-                self.assertTrue(re.search(rf"^ +{re.escape(words.split(' ')[0])}\b", text, re.M), f"the page lacks {words}")
+        rows = [*table.COMMANDS, *table.HELPERS, *table.OWN, *table.VALUES]
+        self.assertGreater(len(rows), 30)
+        for words, *_ in rows:
+            self.assertTrue(re.search(rf"^ +{re.escape(words.split(' ')[0])}\b", text, re.M), f"the page lacks {words}")
         for status in statuses_of_commands():
             self.assertTrue(re.search(rf"^ +{status} ", text.split("EXIT STATUS")[1], re.M), f"the page lacks status {status}")
         self.assertTrue(read(page).count(b"\n.TP\n") >= 30 and "osp \N{HYPHEN}" not in text, "hyphens can't be copied")
@@ -310,8 +339,7 @@ class Pages(Furnished):
 
     def test_statuses(self):
         """the table of statuses is that of docs/COMMANDS.md"""
-        part = re.search(r"^statuses=\(\n(.*?)^\)", read(f"{TOP}/door/tables.bash").decode(), re.M | re.S)[1]
-        self.assertEqual(re.findall(r"^  (\d+) '", part, re.M), statuses_of_commands(), "they differ")
+        self.assertEqual([str(it) for it, _ in table.STATUSES], statuses_of_commands(), "they differ")
 
     def test_completion(self):
         """completion completes commands, options and their values, and leaves files to bash"""

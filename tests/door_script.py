@@ -50,7 +50,7 @@ class Help(InHouse):
 
     def test_a_row_of_the_table(self):
         """a row of the script's table is all that a command needs: its help, its words, and whether it reads"""
-        self.house.add_row("'linger NUMBER [--workers N]' '' 'waits so long' './osp linger 7'")
+        self.house.add_row("linger NUMBER [--workers N]", "", "waits so long", "./osp linger 7")
         self.assertIn("  ./osp linger NUMBER [--workers N]\n      waits so long\n      as in  ./osp linger 7\n", self.house.run("--help").out, "the help lacks it")
         self.house.run("linger").gives(2, "", "linger needs NUMBER")
         self.house.run("linger", "7", "--workers", "17").gives(2, "", "17 cannot stand for --workers N")

@@ -70,7 +70,7 @@ class Terminal(InHouse):
         """on a terminal a refusal is followed by the words that say more"""
         self.house.write("program", SLOW, 0o755)
         self.house.write("seconds", "0")
-        self.house.add_row("'go-on [--workers N] flown NAME ..' 'SCENARIO' 'goes on' './osp go-on'")
+        self.house.add_row("go-on [--workers N] flown NAME ..", "SCENARIO", "goes on", "./osp go-on")
         self.house.built()
         lake, plan = f"{self.house.at}/lake", f"{self.house.at}/plan"
         self.house.write("lake", SCENARIO)

@@ -13,6 +13,13 @@ NAMING = [
     ("duo", ["--workers", "2"], ["start", "lake"]),
     ("duo", [], ["start", "--nodes"]),
 ]
+# In the place of Python: an older one, by what it says of itself.
+OLDER = """#!/bin/sh
+exec %s -I -c 'import sys
+sys.version_info = (3, 10, 12)
+name = next(it for it in sys.argv if it.endswith("__main__.py"))
+exec(compile(open(name).read(), name, "exec"), {"__name__": "__main__", "__file__": name})' "$@"
+"""
 
 
 class Words(InHouse):
@@ -64,7 +71,7 @@ class Words(InHouse):
 
     def test_behind_a_word_in_small_letters(self):
         """a word in small letters among the words of a row hands on all that follows it"""
-        self.house.add_row("'plan-on [--workers N] flown NAME ..' 'SCENARIO' 'plans on' './osp plan-on'")
+        self.house.add_row("plan-on [--workers N] flown NAME ..", "SCENARIO", "plans on", "./osp plan-on")
         self.house.write("program", '#!/bin/sh\nprintf "%s\\n" "$*" && cat\n', 0o755)
         self.house.write("lake", SCENARIO)
         self.house.run("plan-on", "lake").refuses("plan-on needs flown")
@@ -143,10 +150,17 @@ class Helpers(InHouse):
         self.house.run("show", "-o").refuses("-o needs the name")
 
     def test_without_python(self):
-        """a helper without a Python of 3.11 or later: one line, status 70"""
+        """without a Python of 3.11 or later, or without any: one line, status 70"""
         self.house.run("show", "a").gives(0)
-        self.house.write("bin/python3", '#!/bin/sh\nexit 1\n', 0o755)
-        self.house.run("show", "a").fails("3.11")
+        self.house.write("bin/python3", OLDER % os.path.realpath("/usr/bin/python3"), 0o755)
+        for words in (["show", "a"], ["plan"], ["--help"]):
+            self.house.run(*words).fails("python3 of version 3.11 or later is needed on the PATH, and this is another")
+        for name in ("readlink", "sh"):
+            os.symlink(f"/usr/bin/{name}", f"{self.house.tmp}/{name}")
+        how = self.house.how()
+        how["env"]["PATH"] = self.house.tmp
+        for words in (["show", "a"], ["plan"], ["--help"]):
+            run([self.house.script, *words], **how).fails("python3 of version 3.11 or later is needed on the PATH: apt install python3")
 
 
 class Version(InHouse):

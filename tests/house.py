@@ -169,8 +169,8 @@ class House:
         for folder in (self.bin, self.tmp, f"{self.at}/examples"):
             os.makedirs(folder)
         self.script = shutil.copy(os.path.join(TOP, "osp"), self.at)
-        shutil.copytree(os.path.join(TOP, "door"), os.path.join(self.at, "door"))
-        self.add_row("'wait' '' 'waits, for tests' './osp wait'")
+        shutil.copytree(os.path.join(TOP, "door"), os.path.join(self.at, "door"), ignore=shutil.ignore_patterns("__pycache__"))
+        self.add_row("wait", "", "waits, for tests", "./osp wait")
         for name in ("low", "other", "middle", "osp"):
             for part in ("src/lib.rt", "specs/Lib.antt", "proofs/Lib.antt"):
                 self.write(f"crates/{name}/{part}", f"{name} {part}\n")
@@ -184,11 +184,11 @@ class House:
         self.write("KIT", "# kits\nmade-kit  0123456  2026-01-02\n")
         self.write("mood", "well")
 
-    def add_row(self, row):
-        """Puts a row before the others of the script's table of commands."""
-        text = read(f"{self.at}/door/tables.bash").decode()
-        HOLDS.assertEqual(text.count("\ncommands=(\n"), 1, "door/tables.bash has no table of commands")
-        self.write("door/tables.bash", text.replace("\ncommands=(\n", f"\ncommands=(\n  {row}\n", 1))
+    def add_row(self, *row):
+        """Puts a row before the others of the script's table of commands: its words, its files, what it does, an example."""
+        text = read(f"{self.at}/door/table.py").decode()
+        HOLDS.assertEqual(text.count("\nCOMMANDS = [\n"), 1, "door/table.py has no table of commands")
+        self.write("door/table.py", text.replace("\nCOMMANDS = [\n", f"\nCOMMANDS = [\n    {row!r},\n", 1))
 
     def write(self, name, text, mode=0o644):
         path = os.path.join(self.at, name)

@@ -1,5 +1,6 @@
 """Runs unittest cases, and tells as they end which of them failed and which can't be tried here: the part of tests/desk and tests/front-door."""
 import os
+import signal
 import unittest
 
 TOP = os.path.dirname(os.path.dirname(os.path.realpath(__file__)))
@@ -54,8 +55,13 @@ def cases_of(pattern):
 
 
 def ran(cases):
-    """Runs cases from the top of the repository, one after the other, and answers the counts."""
+    """Runs cases from the top of the repository, one after the other, and answers the counts. What they start gets signals as a terminal gives
+    them, though this runs in the background, where some are ignored."""
     os.chdir(TOP)
+    signal.signal(signal.SIGINT, signal.default_int_handler)
+    for it in (signal.SIGTERM, signal.SIGHUP, signal.SIGQUIT):
+        if signal.getsignal(it) is signal.SIG_IGN:
+            signal.signal(it, signal.SIG_DFL)
     told = Told()
     unittest.TestSuite(cases).run(told)
     told.tell()

@@ -1,0 +1,1 @@
+"""The front door: what the script `osp` does."""
