@@ -4,7 +4,7 @@ import functools
 import hashlib
 import os
 
-from desk import forms, masses, paths, program, reports, seats, squares
+from desk import forms, masses, paths, program, reading, reports, seats, squares
 from desk.limits import MOST_INPUT
 from desk.status import Status
 
@@ -78,17 +78,15 @@ def shown(name):
     return "".join(it if it.isprintable() else "\N{REPLACEMENT CHARACTER}" for it in text)
 
 
-def read_file(name):
-    """The bytes of a file, or of standard input where its name is `-`, which the program doesn't refuse for their length."""
+def read_file(name, enough=None):
+    """The bytes of a file, or of standard input where its name is `-`, which the program doesn't refuse for their length; no more than
+    the first ones where so many are enough. Raises Refused."""
     try:
-        # (The descriptor 0 stays open.)
-        with open(0 if name == "-" else name, "rb", closefd=name != "-") as file:
-            text = file.read(MOST_INPUT + 1)
-    except (OSError, ValueError) as why:
-        raise Refused(Status.UNREADABLE, f"cannot read {shown(name)}: {getattr(why, 'strerror', None) or why}") from None
-    if len(text) > MOST_INPUT:
-        raise Refused(Status.TOO_LONG, f"{shown(name)}: input too long")
-    return text
+        return reading.read(name, MOST_INPUT) if enough is None else reading.begin(name, enough)
+    except OSError as wrong:
+        raise Refused(Status.UNREADABLE, f"cannot read {shown(name)}: {reading.why(wrong)}") from None
+    except reading.TooLong:
+        raise Refused(Status.TOO_LONG, f"{shown(name)}: input too long") from None
 
 
 def joined(scenario, plan):
@@ -142,9 +140,11 @@ def agree(sc, report, told):
 
 def texts(names):
     """The texts of a scenario and of its plan, from a file each or from one that has both, as `replan` and `duo` write them."""
-    if len(names) == 2:
-        return tuple(map(read_file, names))
-    text = read_file(names[0])
+    return tuple(map(read_file, names)) if len(names) == 2 else parted(read_file(names[0]))
+
+
+def parted(text):
+    """The texts of a scenario and of the plan behind it; the plan's is empty where the scenario is none."""
     try:
         plan = forms.read_scenario(text, alone=False)[1]
     except forms.Fault:
