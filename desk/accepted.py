@@ -4,7 +4,7 @@ import functools
 import hashlib
 import os
 
-from desk import forms, masses, paths, program, reading, reports, seats, squares
+from desk import forms, masses, paths, program, quoting, reading, reports, seats, squares
 from desk.limits import MOST_INPUT
 from desk.status import Status
 
@@ -54,7 +54,7 @@ class Search:
     def checked_by(self):
         """What accepted the plan, as a sentence."""
         if program.OSP != os.path.join(program.TOP, "osp"):
-            return f"Checked by {shown(os.path.basename(program.OSP))}, in the place of ./osp."
+            return f"Checked by {titled(os.path.basename(program.OSP))}, in the place of ./osp."
         return f"Checked by {'an unproved run of the program' if UNPROVED in self.note else 'the proved program'}."
 
     @property
@@ -73,7 +73,12 @@ class Search:
 
 
 def shown(name):
-    """A file name as text that can be printed: what isn't UTF-8 or is a control character becomes a replacement mark."""
+    """A file name for a line: what can't be printed is an escape."""
+    return quoting.word(os.fsdecode(name))
+
+
+def titled(name):
+    """A file name for a page: what isn't UTF-8 or can't be printed is a replacement mark."""
     text = os.fsencode(name).decode("utf-8", "replace")
     return "".join(it if it.isprintable() else "\N{REPLACEMENT CHARACTER}" for it in text)
 
@@ -202,7 +207,7 @@ def load(names, of=None):
         raise Refused(Status.FAILED, f"this helper's numbers aren't those of osp {'gap' if is_gap else 'report'}; please tell the project, with both files")
     who = seated(sc, of, old)
     sums = [hashlib.sha256(it).hexdigest() for it in (scenario, plan)]
-    name = "of standard input" if names[0] == "-" else shown(os.path.basename(names[0]))
+    name = "of standard input" if names[0] == "-" else titled(os.path.basename(names[0]))
     told_by = scenario if old is None else old
     ceiling = begun.ceiling if is_gap else None
     return Search(name, scenario, sc, begun.path, begun.dialect.version, begun.nodes, report, frames, *sums, note, who, told_by, ceiling, plan)

@@ -31,7 +31,7 @@ def at(wrong):
     found, step = "", wrong.__traceback__
     while step:
         name = step.tb_frame.f_code.co_filename
-        if os.path.dirname(os.path.realpath(name)) == FOLDER:
+        if os.path.dirname(os.path.realpath(name)) == FOLDER and name != __file__:
             found = f" at {os.path.basename(name)}, line {step.tb_lineno}"
         step = step.tb_next
     return found
