@@ -9,6 +9,7 @@ import functools
 import hashlib
 import io
 import math
+import mmap
 import os
 import re
 import warnings
@@ -256,7 +257,7 @@ def of_netcdf(name, file, clock, frame, digest):
     netcdf = packages.module("netCDF4", "python3-netcdf4", "a netCDF file of tracks needs the package")
     metres = in_metres(name, frame, DEGREES)
     try:
-        with warnings.catch_warnings(), netcdf.Dataset(f"/proc/self/fd/{file.fileno()}") as data:
+        with warnings.catch_warnings(), dataset(netcdf, file) as data:
             # (The package warns of attributes that it doesn't use.)
             warnings.simplefilter("ignore")
             told = Variables(name, data, minutes_of(name, netcdf, data, clock))
@@ -267,6 +268,13 @@ def of_netcdf(name, file, clock, frame, digest):
         # (So it says that a file is none, or that it is cut.)
         raise wrong(name, "it isn't a whole netCDF file") from None
     return Recorded(name, courses, empty, told.minutes[0], told.minutes[-1], metres, digest)
+
+
+def dataset(netcdf, file):
+    """The open netCDF file as the package has it. One without a name, a pipe's, it takes from memory alone. Raises OSError."""
+    if os.fstat(file.fileno()).st_nlink:
+        return netcdf.Dataset(f"/proc/self/fd/{file.fileno()}")
+    return netcdf.Dataset("pipe", memory=mmap.mmap(file.fileno(), 0, access=mmap.ACCESS_READ))
 
 
 def minutes_of(name, netcdf, data, clock):
@@ -352,7 +360,8 @@ def check_attributes(name, variable):
         value = getattr(variable, its, None)
         is_number_of = getattr(getattr(value, "dtype", None), "kind", None) in NUMERIC and value.size in counts
         if value is not None and not is_number_of:
-            raise wrong(name, f"{its} of {variable.name} should be {'one number' if counts == [1] else 'numbers'}, and is {shown(str(value))}")
+            told = {1: "one number", 2: "two numbers"}.get(counts[-1], "numbers")
+            raise wrong(name, f"{its} of {variable.name} should be {told}, and is {shown(str(value))}")
 
 
 def is_number(value):
