@@ -10,6 +10,8 @@ DIGITS = 7
 # How many metres a side of a square, which is straight in the area, may be off from the lines that are straight in degrees. From how many
 # lengths of a side to the pole on a parallel bends as far from it. How many metres a degree of latitude has at least.
 OFF, FAR, IN_DEGREE = 0.5, 10, 110_500
+# Into how many lines a side is cut at most by the formula alone.
+MOST_PIECES = 64
 # Where it is measured how far a line is off, as parts of it; from how many halvings on it isn't cut any more.
 MEASURED, MOST_HALVED = (0.25, 0.5, 0.75), 24
 
@@ -17,6 +19,13 @@ MEASURED, MOST_HALVED = (0.25, 0.5, 0.75), 24
 def point(place):
     """An earth.Place as longitude and latitude."""
     return place.longitude, place.latitude
+
+
+def pieces(side, latitude):
+    """Into how many lines a side in metres is cut, so that none is off by more than OFF, where the pole is far. Between two ends so far
+    apart a parallel is off from the straight way by side² * tan(latitude) / (8 * R); a part of it, by the square of that part."""
+    bend = side * side * math.tan(math.radians(min(abs(latitude), 89.9))) / (8 * 6_356_000)
+    return min(max(1, math.ceil(math.sqrt(bend / OFF))), MOST_PIECES)
 
 
 def is_short(side, latitude):
