@@ -4,7 +4,7 @@ import functools
 import hashlib
 import os
 
-from desk import forms, masses, paths, program, reports, seats, squares
+from desk import forms, masses, paths, program, quoting, reading, reports, seats, squares
 from desk.limits import MOST_INPUT
 from desk.status import Status
 
@@ -54,7 +54,7 @@ class Search:
     def checked_by(self):
         """What accepted the plan, as a sentence."""
         if program.OSP != os.path.join(program.TOP, "osp"):
-            return f"Checked by {shown(os.path.basename(program.OSP))}, in the place of ./osp."
+            return f"Checked by {titled(os.path.basename(program.OSP))}, in the place of ./osp."
         return f"Checked by {'an unproved run of the program' if UNPROVED in self.note else 'the proved program'}."
 
     @property
@@ -73,22 +73,25 @@ class Search:
 
 
 def shown(name):
-    """A file name as text that can be printed: what isn't UTF-8 or is a control character becomes a replacement mark."""
+    """A file name for a line: what can't be printed is an escape."""
+    return quoting.word(os.fsdecode(name))
+
+
+def titled(name):
+    """A file name for a page: what isn't UTF-8 or can't be printed is a replacement mark."""
     text = os.fsencode(name).decode("utf-8", "replace")
     return "".join(it if it.isprintable() else "\N{REPLACEMENT CHARACTER}" for it in text)
 
 
-def read_file(name):
-    """The bytes of a file, or of standard input where its name is `-`, which the program doesn't refuse for their length."""
+def read_file(name, enough=None):
+    """The bytes of a file, or of standard input where its name is `-`, which the program doesn't refuse for their length; no more than
+    the first ones where so many are enough. Raises Refused."""
     try:
-        # (The descriptor 0 stays open.)
-        with open(0 if name == "-" else name, "rb", closefd=name != "-") as file:
-            text = file.read(MOST_INPUT + 1)
-    except (OSError, ValueError) as why:
-        raise Refused(Status.UNREADABLE, f"cannot read {shown(name)}: {getattr(why, 'strerror', None) or why}") from None
-    if len(text) > MOST_INPUT:
-        raise Refused(Status.TOO_LONG, f"{shown(name)}: input too long")
-    return text
+        return reading.read(name, MOST_INPUT) if enough is None else reading.begin(name, enough)
+    except OSError as wrong:
+        raise Refused(Status.UNREADABLE, f"cannot read {shown(name)}: {reading.why(wrong)}") from None
+    except reading.TooLong:
+        raise Refused(Status.TOO_LONG, f"{shown(name)}: input too long") from None
 
 
 def joined(scenario, plan):
@@ -142,9 +145,11 @@ def agree(sc, report, told):
 
 def texts(names):
     """The texts of a scenario and of its plan, from a file each or from one that has both, as `replan` and `duo` write them."""
-    if len(names) == 2:
-        return tuple(map(read_file, names))
-    text = read_file(names[0])
+    return tuple(map(read_file, names)) if len(names) == 2 else parted(read_file(names[0]))
+
+
+def parted(text):
+    """The texts of a scenario and of the plan behind it; the plan's is empty where the scenario is none."""
     try:
         plan = forms.read_scenario(text, alone=False)[1]
     except forms.Fault:
@@ -202,7 +207,7 @@ def load(names, of=None):
         raise Refused(Status.FAILED, f"this helper's numbers aren't those of osp {'gap' if is_gap else 'report'}; please tell the project, with both files")
     who = seated(sc, of, old)
     sums = [hashlib.sha256(it).hexdigest() for it in (scenario, plan)]
-    name = "of standard input" if names[0] == "-" else shown(os.path.basename(names[0]))
+    name = "of standard input" if names[0] == "-" else titled(os.path.basename(names[0]))
     told_by = scenario if old is None else old
     ceiling = begun.ceiling if is_gap else None
     return Search(name, scenario, sc, begun.path, begun.dialect.version, begun.nodes, report, frames, *sums, note, who, told_by, ceiling, plan)

@@ -24,9 +24,9 @@ def unforced(sc, path):
     return who.of, [who.sources[it][0] for it in path]
 
 
-def scenario_of(name):
-    """The text of a file's scenario alone, and what is said of it. Raises Refused."""
-    text, _ = accepted.texts([name])
+def scenario_of(name, text):
+    """The scenario alone of a file of this name and its text, and what is said of it. Raises Refused."""
+    text, _ = accepted.parted(text)
     try:
         sc = forms.read_scenario(text, False)[0]
     except forms.Fault as fault:
@@ -41,7 +41,8 @@ def scenario_of(name):
 def main(words):
     """Runs the helper; answers its exit status."""
     try:
-        text, told = scenario_of(WORDS.one_file(words, "a scenario with its plan behind it"))
+        name = WORDS.one_file(words, "a scenario with its plan behind it")
+        text, told = scenario_of(name, accepted.read_file(name))
     except BadWords as wrong:
         return WORDS.refuse(wrong)
     except Refused as why:

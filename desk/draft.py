@@ -4,7 +4,7 @@ The scenario goes to standard output; what was rounded, and what to look at, to 
 """
 import os
 
-from desk import packages, running, telling, tracks, writing
+from desk import packages, reading, running, telling, tracks, writing
 from desk.chain import drifts
 from desk.limits import MOST_SCENARIO
 from desk.rounded import rounded
@@ -52,12 +52,11 @@ def main(words):
     """Runs the helper; answers its exit status."""
     try:
         name = WORDS.one_file(words, "a situation")
-        with open(name, "rb") as file:
-            text = file.read(LONGEST + 1)
+        text = reading.begin(name, LONGEST + 1)
     except BadWords as wrong:
         return WORDS.refuse(wrong)
-    except (OSError, ValueError) as wrong:
-        say(f"the file can't be read: {getattr(wrong, 'strerror', None) or 'no such name'}")
+    except OSError as wrong:
+        say(f"the file can't be read: {reading.why(wrong)}")
         return Status.UNREADABLE
     try:
         with running.progress("draft") as show:

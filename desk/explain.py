@@ -233,15 +233,17 @@ def taken(words):
     return files, names
 
 
-def is_made(name):
-    """Whether a file has a plan behind its scenario."""
-    return name != "-" and accepted.texts([name])[1].startswith((b"plan ", b"gap "))
+def is_made(text):
+    """Whether a text has a plan behind its scenario."""
+    return accepted.parted(text)[1].startswith((b"plan ", b"gap "))
 
 
 def told_of(files, names):
     """The exit status and all lines for these files and names."""
-    # (With names the plan behind a scenario, as replan writes it, is left out.)
-    scenario, plan = (alone.scenario_of(files[0])[0], None) if names and is_made(files[0]) else [*map(accepted.read_file, files), None][:2]
+    scenario, plan = [*map(accepted.read_file, files), None][:2]
+    if names and is_made(scenario):
+        # (With names the plan behind a scenario, as replan writes it, is left out.)
+        scenario = alone.scenario_of(files[0], scenario)[0]
     status, line = names_verdict(scenario, names) if names else program_verdict(scenario, plan)
     if status in (Status.BAD_FLOWN, Status.BAD_PAIR):
         return status, [line, *of_names(scenario, names, line)]

@@ -7,9 +7,13 @@ from desk.states import LOST
 
 # Degrees are written with so many digits: one of the last is a centimetre.
 DIGITS = 7
-# How many metres a side of a square, which is straight in the area, may be off from the lines that are straight in degrees, and into how
-# many of them it is cut at most.
-OFF, MOST_PIECES = 0.5, 64
+# How many metres a side of a square, which is straight in the area, may be off from the lines that are straight in degrees. From how many
+# lengths of a side to the pole on a parallel bends as far from it. How many metres a degree of latitude has at least.
+OFF, FAR, IN_DEGREE = 0.5, 10, 110_500
+# Into how many lines a side is cut at most by the formula alone.
+MOST_PIECES = 64
+# Where it is measured how far a line is off, as parts of it; from how many halvings on it isn't cut any more.
+MEASURED, MOST_HALVED = (0.25, 0.5, 0.75), 24
 
 
 def point(place):
@@ -18,20 +22,52 @@ def point(place):
 
 
 def pieces(side, latitude):
-    """Into how many lines a side in metres is cut, so that none is off by more than OFF. Between two ends so far apart a parallel is
-    off from the straight way by side² * tan(latitude) / (8 * R); a part of it, by the square of that part."""
-    off = side * side * math.tan(math.radians(min(abs(latitude), 89.9))) / (8 * 6_356_000)
-    return min(max(1, math.ceil(math.sqrt(off / OFF))), MOST_PIECES)
+    """Into how many lines a side in metres is cut, so that none is off by more than OFF, where the pole is far. Between two ends so far
+    apart a parallel is off from the straight way by side² * tan(latitude) / (8 * R); a part of it, by the square of that part."""
+    bend = side * side * math.tan(math.radians(min(abs(latitude), 89.9))) / (8 * 6_356_000)
+    return min(max(1, math.ceil(math.sqrt(bend / OFF))), MOST_PIECES)
+
+
+def is_short(side, latitude):
+    """Whether a side in metres, up to a latitude, is clearly off by less than OFF. Where the pole is far, a parallel is off from the
+    straight way between two ends so far apart by side² * tan(latitude) / (8 * R), and what is straight in the area by less than
+    side² / (8 * R)."""
+    is_far = (90 - abs(latitude)) * IN_DEGREE > FAR * side
+    return is_far and side * side * (1 + math.tan(math.radians(abs(latitude)))) / (8 * 6_356_000) < OFF / 10
+
+
+def off(frame, one, other):
+    """By how many metres the line between two ends that is straight in degrees is off from the one that is straight in the area. An end is
+    a place in metres with its longitude and latitude."""
+    (place, (a, b)), (to, (x, y)) = one, other
+    turn = (x - a + 180) % 360 - 180
+    return max(apart(frame.to_area(b + (y - b) * it, a + turn * it), place, to) for it in MEASURED)
+
+
+def apart(place, begin, end):
+    """How far a place is from the straight way between two places, in metres."""
+    (a, b), (x, y) = begin, end
+    long = (x - a) ** 2 + (y - b) ** 2
+    share = min(max(((place[0] - a) * (x - a) + (place[1] - b) * (y - b)) / long, 0), 1) if long else 0
+    return math.dist(place, (a + share * (x - a), b + share * (y - b)))
+
+
+def cut(frame, one, other, halved=0):
+    """The points of longitude and latitude from an end up to another, without that, so many that no line between them is off by more
+    than OFF: halves are halved where theirs is. (No line is off by more than its length: so it ends at a pole, too.)"""
+    if halved == MOST_HALVED or off(frame, one, other) <= OFF:
+        return [one[1]]
+    place = tuple((a + x) / 2 for a, x in zip(one[0], other[0]))
+    middle = place, frame.to_earth(*place)[::-1]
+    return cut(frame, one, middle, halved + 1) + cut(frame, middle, other, halved + 1)
 
 
 def ring_around(frame, middle, side):
     """The ring of a square around a middle in metres: points of longitude and latitude, counterclockwise from its south-west corner."""
-    count = pieces(side, max((frame.to_earth(*it)[0] for it in corners(middle, side)), key=abs))
-    ends = corners(middle, side)
-    found = []
-    for (a, b), (x, y) in zip(ends, ends[1:] + ends[:1]):
-        found += [frame.to_earth(a + (x - a) * it / count, b + (y - b) * it / count)[::-1] for it in range(count)]
-    return found
+    ends = [(it, frame.to_earth(*it)[::-1]) for it in corners(middle, side)]
+    if is_short(side, max((it[1][1] for it in ends), key=abs)):
+        return [it[1] for it in ends]
+    return [it for one, other in zip(ends, ends[1:] + ends[:1]) for it in cut(frame, one, other)]
 
 
 def corners(middle, side):

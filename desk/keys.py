@@ -21,6 +21,8 @@ SQUARE = re.compile(r"r(\d{1,3})c(\d{1,3})", re.ASCII)
 PLAIN = re.compile(r"\s*-?\d{1,12}(?:[.,]\d{1,12})?\s*", re.ASCII)
 CLOCK = re.compile(r"\b(\d{1,2})[:.h](\d\d)\b|\b(\d\d)(\d\d)\Z", re.ASCII)
 ZONE = re.compile(r"\s*(?:UTC|GMT|[zZ]|\+00:?00)\s*\Z", re.ASCII)
+# The first and the last day of the calendar, on which another zone's day may be none.
+ENDS = datetime.date.min, datetime.date.max
 BETWEEN = re.compile(r"\s*(?:\.{1,3}|\u2026|-|\u2013|:|\bto\b)\s*")
 
 
@@ -97,7 +99,7 @@ def take_key(table, where, key):
 def likely(value):
     """What a wrong value was perhaps meant to be: without quotes or brackets, or with them, in small letters, with two dots between the
     squares of a block, with a colon and two digits in a time."""
-    if isinstance(value, datetime.datetime) and value.tzinfo:
+    if isinstance(value, datetime.datetime) and value.tzinfo and value.date() not in ENDS:
         yield f"{value.astimezone(datetime.timezone.utc):%Y-%m-%d %H:%M:%S}Z"
     if isinstance(value, str) and len(value) <= 40:
         yield ZONE.sub("Z", value)

@@ -20,5 +20,7 @@ def module(name, package, what):
             importlib.invalidate_caches()
     try:
         return importlib.import_module(name)
-    except ImportError:
+    except ModuleNotFoundError:
         raise Lacking(f"{what} {package}, which isn't there for this Python: install it, as by apt install {package}") from None
+    except ImportError as why:
+        raise Lacking(f"{what} {package}, which can't be loaded: {' '.join(str(why).split())[:200]}") from None

@@ -11,7 +11,23 @@ MOST_LISTED = 8
 DIRECTIONS = {0x061C, 0x200E, 0x200F, *range(0x202A, 0x202F), *range(0x2066, 0x206A)}
 
 
+def escape(letter):
+    """A character that can't be printed as an escape, such as \\x1b or \\u202e. One that stands for a byte that is no UTF-8 is that byte."""
+    is_byte = 0xDC80 <= ord(letter) <= 0xDCFF
+    return f"\\x{ord(letter) - 0xDC00:02x}" if is_byte else letter.encode("unicode_escape").decode("ascii")
+
+
 def harmless(text):
+    """A text for a terminal, where nothing steers that: what can't be printed is an escape, but line feeds and tabs."""
+    return "".join(it if it.isprintable() or it in "\n\t" else escape(it) for it in text)
+
+
+def word(text):
+    """A word of a user, such as the name of a file, on one line: what can't be printed is an escape."""
+    return "".join(it if it.isprintable() else escape(it) for it in text)
+
+
+def marked(text):
     """A text with a mark in the place of what steers a terminal: control characters but line feeds and tabs, and those that turn the
     direction of letters around."""
     return "".join("\N{REPLACEMENT CHARACTER}" if ord(it) in DIRECTIONS or is_control(it) else it for it in text)

@@ -4,18 +4,22 @@ import array
 import csv
 import dataclasses
 import datetime
+import errno
 import functools
 import hashlib
+import io
 import math
+import mmap
 import os
 import re
+import warnings
 from fractions import Fraction
 
-from desk import accepted, moments, packages, placing
+from desk import accepted, moments, packages, placing, reading
 from desk.ensemble import Course, wrong
 from desk.keys import shown
 
-# The most tracks of a file, the most places of all of them, and the most times of a netCDF file.
+# The most tracks of a file, the most places of all of them, with those that are lacking, and the most times of a netCDF file.
 MOST_TRACKS, MOST_PLACES, MOST_TIMES = 200_000, 10_000_000, 100_000
 # The columns of a CSV file: those of places in metres or in degrees, and the least and the greatest number of each.
 NEEDED = ("id", "time")
@@ -27,8 +31,14 @@ TIME = re.compile(r"\d{4}-\d\d-\d\d[T ]\d\d:\d\d(?::\d\d(?:[.,]\d{1,9})?)?(?:Z|[
 WRITTEN = "time should be in ISO 8601, as in 2026-07-04T19:30:00"
 # What stands for no number.
 NO_NUMBERS = ("", "nan", "--")
+# The longest line of a CSV file, in characters; with what a netCDF file begins.
+LONGEST_LINE = 65_536
+BEGINS_NETCDF = b"\x89HDF\r\n\x1a\n", b"CDF"
 # Of how many tracks a netCDF file is read at once.
 AT_ONCE = 1000
+# The kinds of numbers, and the attributes by which the values of a variable are read, each with how many numbers it may have.
+NUMERIC = ("f", "i", "u")
+READ_BY = {"add_offset": [1], "scale_factor": [1], "valid_min": [1], "valid_max": [1], "valid_range": [2], "missing_value": range(1, 100)}
 # How many nodes of a lattice are in a degree, and from which latitude on there is none.
 IN_DEGREE, POLAR = 100, 89.9
 
@@ -50,18 +60,41 @@ class Recorded:
 def recorded(path, clock, frame=None):
     """What the file of a path has, in minutes of a clock; degrees become metres by an earth.Frame. Raises BadSituation, and
     packages.Lacking."""
-    name = accepted.shown(os.path.basename(path))
+    name = "standard input" if path == "-" else accepted.shown(os.path.basename(path))
     try:
-        with open(path, "rb") as file:
+        with reading.seekable(path) as file:
+            begins = file.tell()
             digest = hashlib.file_digest(file, "sha256").hexdigest()
-        if path.endswith(".nc"):
-            return of_netcdf(name, path, clock, frame, digest)
-        with open(path, encoding="utf-8-sig", newline="") as file:
-            return Table(name, csv.reader(file), clock, frame).recorded(digest)
+            file.seek(begins)
+            if is_netcdf(path, file):
+                return of_netcdf(name, file, clock, frame, digest)
+            with io.TextIOWrapper(io.BufferedReader(file), encoding="utf-8-sig", newline="") as text:
+                return Table(name, csv.reader(lines(name, text)), clock, frame).recorded(digest)
     except OSError as why:
-        raise wrong(name, f"it can't be read: {why.strerror}") from None
+        raise wrong(name, f"it can't be read: {reading.why(why)}") from None
+    except reading.TooLong:
+        raise wrong(name, f"what is no file has at most {reading.MOST_KEPT:,} bytes, and this one has more") from None
     except (UnicodeDecodeError, csv.Error):
         raise wrong(name, "it isn't a CSV file in UTF-8") from None
+
+
+def is_netcdf(path, file):
+    """Whether an open file, at its begin, is taken for one of netCDF: by its name, or as a pipe by what it begins with."""
+    if path.endswith((".nc", ".csv")):
+        return path.endswith(".nc")
+    begins, told = file.tell(), file.read(len(BEGINS_NETCDF[0]))
+    file.seek(begins)
+    return told.startswith(BEGINS_NETCDF)
+
+
+def lines(name, text):
+    """The lines of an open text, with their line feeds. Raises BadSituation where one is long."""
+    at = 1
+    while line := text.readline(LONGEST_LINE + 1):
+        if len(line) > LONGEST_LINE:
+            raise wrong(name, f"line {at:,} is longer than {LONGEST_LINE:,} characters")
+        yield line
+        at += 1
 
 
 # ---- places and times
@@ -160,7 +193,7 @@ class Table:
                 self.take(row)
         if not self.times:
             raise wrong(self.name, "it has no track")
-        courses = [self.course(name, *it) for name, it in self.tracks.items() if it[0]]
+        courses = [self.course(name, *it) for name, it in self.tracks.items() if it]
         times = self.times.values()
         return Recorded(self.name, courses, len(self.tracks) - len(courses), min(times), max(times), metres, digest)
 
@@ -173,11 +206,13 @@ class Table:
             raise self.fault(f"it has {len(row)} columns, and the first line has more")
         name, time, *pair = (row[it].strip() for it in self.at)
         minute = self.minute(time)
-        track = self.tracks.setdefault(name, tuple(array.array("d") for _ in range(3)))
-        if any(it.lower() in NO_NUMBERS for it in pair):
-            return
+        track = self.tracks.setdefault(name, ())
         self.count += 1
         many(self.name, len(self.tracks), self.count)
+        if any(it.lower() in NO_NUMBERS for it in pair):
+            return
+        if not track:
+            track = self.tracks[name] = tuple(array.array("d") for _ in range(3))
         for to, value in zip(track, (minute, *map(self.number, self.pair, pair))):
             to.append(value)
 
@@ -217,18 +252,29 @@ class Table:
 # ---- netCDF
 
 
-def of_netcdf(name, path, clock, frame, digest):
-    """What a netCDF file of a name and a checksum has. Raises BadSituation and packages.Lacking."""
+def of_netcdf(name, file, clock, frame, digest):
+    """What an open netCDF file of a name and a checksum has. Raises BadSituation and packages.Lacking."""
     netcdf = packages.module("netCDF4", "python3-netcdf4", "a netCDF file of tracks needs the package")
     metres = in_metres(name, frame, DEGREES)
     try:
-        with netcdf.Dataset(os.path.abspath(path)) as data:
-            file = Variables(name, data, minutes_of(name, netcdf, data, clock))
-            courses, empty = file.courses()
-    except (OSError, RuntimeError):
+        with warnings.catch_warnings(), dataset(netcdf, file) as data:
+            # (The package warns of attributes that it doesn't use.)
+            warnings.simplefilter("ignore")
+            told = Variables(name, data, minutes_of(name, netcdf, data, clock))
+            courses, empty = told.courses()
+    except (OSError, RuntimeError) as why:
+        if "malloc" in str(why) or getattr(why, "errno", None) == errno.ENOMEM:
+            raise MemoryError from None
         # (So it says that a file is none, or that it is cut.)
         raise wrong(name, "it isn't a whole netCDF file") from None
-    return Recorded(name, courses, empty, file.minutes[0], file.minutes[-1], metres, digest)
+    return Recorded(name, courses, empty, told.minutes[0], told.minutes[-1], metres, digest)
+
+
+def dataset(netcdf, file):
+    """The open netCDF file as the package has it. One without a name, a pipe's, it takes from memory alone. Raises OSError."""
+    if os.fstat(file.fileno()).st_nlink:
+        return netcdf.Dataset(f"/proc/self/fd/{file.fileno()}")
+    return netcdf.Dataset("pipe", memory=mmap.mmap(file.fileno(), 0, access=mmap.ACCESS_READ))
 
 
 def minutes_of(name, netcdf, data, clock):
@@ -238,6 +284,7 @@ def minutes_of(name, netcdf, data, clock):
         raise wrong(name, VARIABLES)
     if time.size > MOST_TIMES:
         raise wrong(name, f"it has {time.size:,} times, and {MOST_TIMES:,} are the most")
+    check_attributes(name, time)
     try:
         calendar = getattr(time, "calendar", "standard")
         found = netcdf.num2date(time[:].tolist(), time.units, calendar, only_use_cftime_datetimes=False, only_use_python_datetimes=True)
@@ -255,7 +302,7 @@ class Variables:
     def __init__(self, name, data, minutes):
         self.name, self.minutes = name, minutes
         self.places = [self.over_both(data, it) for it in DEGREES]
-        self.status = data.variables.get("status") and self.over_both(data, "status")
+        self.status = None if "status" not in data.variables else self.over_both(data, "status")
         self.count = data.dimensions["trajectory"].size
         many(name, self.count, self.count * len(minutes))
         self.meanings = meanings(self.status)
@@ -264,14 +311,17 @@ class Variables:
         """The variable of a name, which is over trajectories and times."""
         found = data.variables.get(name)
         if found is None or sorted(found.dimensions) != ["time", "trajectory"] or not is_numeric(found):
-            raise wrong(self.name, VARIABLES)
+            raise wrong(self.name, VARIABLES if name in DEGREES else f"{name} should be numbers over trajectory and time, as lon and lat are")
+        check_attributes(self.name, found)
         return found
 
-    @staticmethod
-    def rows(variable, begin):
+    def rows(self, variable, begin):
         """The values of some tracks from a number on, by track and time; None where one is masked."""
         ends = begin + AT_ONCE
-        found = variable[begin:ends] if variable.dimensions[0] == "trajectory" else variable[:, begin:ends].T
+        try:
+            found = variable[begin:ends] if variable.dimensions[0] == "trajectory" else variable[:, begin:ends].T
+        except (ArithmeticError, AttributeError, LookupError, TypeError, ValueError):
+            raise wrong(self.name, f"{variable.name} has attributes by which it can't be read") from None
         return found.tolist()
 
     def courses(self):
@@ -300,8 +350,18 @@ class Variables:
 
 
 def is_numeric(variable):
-    """Whether the values of a variable are numbers."""
-    return getattr(variable.dtype, "kind", None) in ("f", "i", "u")
+    """Whether the values of a variable are plain numbers, and neither texts nor lists of numbers."""
+    return getattr(variable.datatype, "kind", None) in NUMERIC
+
+
+def check_attributes(name, variable):
+    """Raises BadSituation where an attribute by which the values of a variable are read isn't as many numbers as it should be."""
+    for its, counts in READ_BY.items():
+        value = getattr(variable, its, None)
+        is_number_of = getattr(getattr(value, "dtype", None), "kind", None) in NUMERIC and value.size in counts
+        if value is not None and not is_number_of:
+            told = {1: "one number", 2: "two numbers"}.get(counts[-1], "numbers")
+            raise wrong(name, f"{its} of {variable.name} should be {told}, and is {shown(str(value))}")
 
 
 def is_number(value):
@@ -314,5 +374,5 @@ def meanings(status):
     words = str(getattr(status, "flag_meanings", "")).split()
     values = getattr(status, "flag_values", range(len(words)))
     values = values.tolist() if hasattr(values, "tolist") else values
-    values = [values] if isinstance(values, int) else list(values)
+    values = list(values) if isinstance(values, (list, range)) else [values]
     return dict(zip(values, words)) if len(values) == len(words) else {}

@@ -13,7 +13,7 @@ import textwrap
 from desk import accepted, flights, flying, keys, packages, patterns, percent, quoting, running, tracks
 from desk.accepted import Refused
 from desk.brief import rows_of
-from desk.situation import BadSituation, recorded_at, situation
+from desk.situation import LONGEST, BadSituation, recorded_at, situation
 from desk.status import Status
 from desk.words import BadWords, Words
 
@@ -63,7 +63,7 @@ def words_of(words):
     files, found = WORDS.taken(words)
     if not files or len(files) + len(found["--path"]) + len(found["--pattern"]) < 2:
         raise BadWords("a situation is needed, and something to fly: a plan, --path or --pattern")
-    if [*files, found["--of"]].count("-") > 1:
+    if [*files, found["--of"], found["--tracks"]].count("-") > 1:
         raise BadWords("standard input can be read once, and stands for one file")
     if found["--json"] not in (None, "yes"):
         raise BadWords("behind --json stands yes")
@@ -165,7 +165,7 @@ def fresh_tracks(asked, given, own):
 
 def tried(asked):
     """The trial that is asked for. Raises Refused, BadSituation and BadWords."""
-    text = accepted.read_file(asked.situation)
+    text = accepted.read_file(asked.situation, LONGEST + 1)
     given = situation(text, os.path.dirname(asked.situation))
     own = functools.cache(lambda: tracks.made(given))
     made = fresh_tracks(asked, given, own)

@@ -1,15 +1,16 @@
 """Reads what `osp trial --json yes` wrote, for `show` and `brief`: what a plan finds of simulated drifts, and where some of these are."""
 import dataclasses
 import json
-import math
 
 from desk import accepted, limits, percent
 from desk.accepted import Refused
 from desk.status import Status
 
-# The exit status (docs/COMMANDS.md), the longest text of a trial that is read, in bytes, and the most drifts of it.
+# The exit status (docs/COMMANDS.md), the longest text of a trial that is read, in bytes, and the most drifts whose places it has.
 LONGEST = 16_000_000
 MOST_DRIFTS = 500
+# The most drifts that were simulated, or tracks.
+MOST_COUNT = 1_000_000
 
 
 class NoTrial(Exception):
@@ -48,7 +49,7 @@ def place(value):
     if value is None:
         return None
     east, south = value
-    if not all(isinstance(it, (int, float)) and math.isfinite(it) and abs(it) < 1e9 for it in (east, south)):
+    if not all(isinstance(it, (int, float)) and abs(it) < 1e9 for it in (east, south)):
         raise NoTrial("a place")
     return float(east), float(south)
 
@@ -57,7 +58,7 @@ def parsed(text):
     """The JSON of a text given as bytes, with its counts and drifts checked. Raises NoTrial."""
     try:
         told = json.loads(text)
-        if told["trial"] != 1 or type(told["count"]) is not int or told["count"] < 1:
+        if told["trial"] != 1 or type(told["count"]) is not int or not 1 <= told["count"] <= MOST_COUNT:
             raise NoTrial("a trial")
         drifts = [[place(it) for it in look] for look in told["drifts"]]
         if len(drifts) > limits.MOST_PERIODS or any(len(it) > MOST_DRIFTS for it in drifts):
@@ -89,9 +90,9 @@ def with_trial(search, name):
     """An accepted plan with what the trial of the file of this name says of it; without one as it is. Raises Refused."""
     if name is None:
         return search
-    text = accepted.read_file(name)
+    text = accepted.read_file(name, LONGEST)
     try:
-        tried = found(text[:LONGEST], search)
+        tried = found(text, search)
     except NoTrial:
         raise Refused(Status.WRONG_WORDS, f"--trial {accepted.shown(name)} isn't what osp trial writes with --json yes") from None
     if tried is None:

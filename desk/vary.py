@@ -13,7 +13,7 @@ from desk import accepted, draft, flights, packages, percent, quoting, running, 
 from desk.accepted import Refused
 from desk.brief import rows_of
 from desk.limits import MOST_GAP_RECORDS
-from desk.situation import BadSituation, situation
+from desk.situation import LONGEST, BadSituation, situation
 from desk.status import Status
 from desk.trial import signed, wrapped
 from desk.words import BadWords, Words
@@ -135,7 +135,7 @@ def row(variation, at, names, whose, nodes):
 
 def found(asked, show=lambda line: None):
     """What comes of the words; `show` is told how far it is. Raises Refused, BadSituation and packages.Lacking."""
-    text = accepted.read_file(asked.situation)
+    text = accepted.read_file(asked.situation, LONGEST + 1)
     plan = accepted.read_file(asked.plan)
     given = situation(text, os.path.dirname(asked.situation))
     made = tracks.made(given)

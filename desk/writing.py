@@ -91,7 +91,7 @@ def entries(sc, row):
 def comment_line(text):
     """A comment on one line, whatever its text holds; nothing in it steers a terminal."""
     text = text if isinstance(text, bytes) else text.encode("utf-8", "replace")
-    text = quoting.harmless(text.decode("utf-8", "surrogateescape")).encode("utf-8", "surrogateescape")
+    text = quoting.marked(text.decode("utf-8", "surrogateescape")).encode("utf-8", "surrogateescape")
     return (b"# " + b" ".join(text.splitlines())).rstrip()
 
 

@@ -176,14 +176,34 @@ class GeoJson(Charts):
         self.assertIn("osp chart: squares are left out: comments # at NAME EAST SOUTH don't place each of them", said)
 
     def test_sides_of_large_squares_are_off_by_less_than_a_metre(self):
-        """The middle of each line between two points of a ring, straight in degrees, lies on the side of the square."""
-        for reference, side in (((57.725, 10.58), 500), ((57.725, 10.58), 20_000), ((80, 179.9), 50_000), ((-45, 0), 100_000)):
+        """Places along each line between two points of a ring, straight in degrees, lie on a side of the square by geographiclib, near
+        poles and over them, too; and the ring has the square's area to a thousandth."""
+        far = ((57.725, 10.58), 500), ((57.725, 10.58), 20_000), ((80, 179.9), 50_000), ((-45, 0), 100_000), ((0, 0), 1500)
+        near = ((89.9, 30), 5000), ((-89.99, 0), 1000), ((90, 0), 20_000), ((-90, 77), 500), ((89.995, -170), 100), ((89.2, 10), 60_000)
+        for reference, side in (*far, *near):
             frame = earth.Frame(*reference)
-            ring = meridian.unwrapped(geojson.ring_around(frame, (1.5 * side, 0.5 * side), side))
-            for (a, b), (x, y) in zip(ring, ring[1:] + ring[:1]):
-                east, south = frame.to_area((b + y) / 2, (a + x) / 2)
-                with self.subTest(reference=reference, side=side):
-                    self.assertLess(min(abs(east - side), abs(east - 2 * side), abs(south), abs(south - side)), 1)
+            for middle in ((1.5 * side, 0.5 * side), (0.5 * side, -0.5 * side), (0, 0)):
+                ring = meridian.unwrapped(geojson.ring_around(frame, middle, side))
+                worst = max(self.apart(frame, one, other, middle, side) for one, other in zip(ring, ring[1:] + ring[:1]))
+                with self.subTest(reference=reference, side=side, middle=middle, points=len(ring)):
+                    self.assertLess(worst, 1)
+                    self.assertLess(len(ring), 2500)
+
+    @staticmethod
+    def apart(frame, one, other, middle, side):
+        """How far the line between two points leaves the sides of a square, in metres, at five places of it. The place of reference is the
+        origin, and the other way there is found by the geodesic that geographiclib gives."""
+        (a, b), (x, y) = one, other
+        turn = (x - a + 180) % 360 - 180
+        found = []
+        for it in range(1, 6):
+            line = earth.geodesics().Inverse(frame.latitude, frame.longitude, b + (y - b) * it / 6, a + turn * it / 6)
+            bearing = math.radians(line["azi1"])
+            east, south = line["s12"] * math.sin(bearing) - middle[0], -line["s12"] * math.cos(bearing) - middle[1]
+            # From the border of a square around the origin: outside of it, or inside.
+            outside = math.hypot(max(abs(east) - side / 2, 0), max(abs(south) - side / 2, 0))
+            found.append(outside or side / 2 - max(abs(east), abs(south)))
+        return max(found)
 
 
 @on_earth

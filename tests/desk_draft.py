@@ -78,6 +78,9 @@ lookin 2 a a 2
 moves hill a hill
 end"""
 
+# The first and the last times that TOML has, in zones where these days are none in UTC, and in UTC.
+ENDS = "0001-01-01T00:00:00+14:00", "9999-12-31T23:59:59-12:00", "0001-01-01T00:00:00Z", "9999-12-31T23:59:59Z", "0001-01-02T05:00:00+14:00"
+
 
 class Writing(unittest.TestCase):
     def test_each_example_reads_back_as_the_same_search(self):
@@ -341,6 +344,8 @@ class Times(unittest.TestCase):
             ('"12:00Z"', '"2026-07-04 11:30Z"', r'it has a date, so .* should have one, as in begins = "2026-07-04 19:30Z"'),
             ('"2026-07-04 12:00 UTC"', '"11:30"', 'write begins = "2026-07-04 12:00Z"$'),
             ("2026-07-04T12:00:00+02:00", '"11:30"', r"local or \(with Z\) in UTC, .* write begins = \"2026-07-04 10:00:00Z\"$"),
+            # At the calendar's ends the day may be none in another zone.
+            *((it, '"11:30"', r"begins: it should be a time, .*, as in begins = \"19:30\", and is \S+ \S+$") for it in ENDS),
         )
         for of_search, of_report, refused in rows:
             text = LAKE.replace(begins, of_search).replace('time = "2026-07-04 12:15"', f"time = {of_report}")

@@ -3,7 +3,9 @@ hand, or by a second computation."""
 import csv
 import os
 import random
+import threading
 import unittest
+import warnings
 
 from tests import opendrift
 from tests.opendrift import epoch
@@ -127,6 +129,75 @@ class OpenDrift(File):
             with self.subTest(wanted):
                 said = self.refused(self.netcdf, tracks, **more)
                 self.assertTrue(said.startswith(f"[tracks] file: ensemble.nc: {wanted}"), said)
+
+    def shaped(self, change):
+        """The ensemble of a file that is changed behind its writing."""
+        netcdf = packages.module("netCDF4", "python3-netcdf4", "this file needs the package")
+        self.netcdf([self.EAST])
+        with netcdf.Dataset(os.path.join(self.room, "ensemble.nc"), "a") as data:
+            change(data, packages.module("numpy", "python3-numpy", "this file needs the package"))
+        return self.ensemble("ensemble.nc")
+
+    def test_numbers_of_statuses_that_are_no_whole_ones(self):
+        """Parts, texts and too few: none that fits gives no status, and those that do give theirs."""
+        wanted = [[(300, 100)], [(600, 100)], [(900, 100)]]
+        for its in (1.5, "0b 1b 2b", "012", [0.5, 1.5, 2.5], [0.0, 1.0, 2.0]):
+            with self.subTest(its):
+                found = self.shaped(lambda data, numpy, its=its: setattr(data["status"], "flag_values", its if isinstance(its, str) else numpy.array(its)))
+                self.assert_places(found.looks, wanted)
+                self.assertEqual(found.gone, (None,))
+
+    def test_shapes_that_are_refused(self):
+        """Each in one line that names the variable, and nothing else is said."""
+        def other(name, kind, dimensions=("trajectory", "time")):
+            def change(data, numpy):
+                data.renameVariable(name, "other")
+                data.createVariable(name, kind(data, numpy), dimensions)
+
+            return change
+
+        def has(name, its, value):
+            return lambda data, numpy: setattr(data[name], its, value if isinstance(value, str) else numpy.array(value, "f8"))
+
+        whole, lists = (lambda data, numpy: "i4"), (lambda data, numpy: data.createVLType("f8", "list"))
+        pairs = lambda data, numpy: data.createCompoundType(numpy.dtype([("x", "f8")]), "pair")  # noqa: E731
+        rows = (
+            (other("status", whole, ()), "status should be numbers over trajectory and time"),
+            (other("status", whole, ("time",)), "status should be numbers over trajectory and time"),
+            (other("status", lambda data, numpy: str), "status should be numbers over trajectory and time"),
+            (other("lon", lists), "it should have the dimensions trajectory and time, the variables lon and lat"),
+            (other("lat", pairs), "it should have the dimensions trajectory and time, the variables lon and lat"),
+            (other("time", lists, ("time",)), "it should have the dimensions trajectory and time, the variables lon and lat"),
+            (has("lon", "add_offset", "x"), "add_offset of lon should be one number, and is 'x'"),
+            (has("lat", "scale_factor", [1, 2]), "scale_factor of lat should be one number, and is '[1. 2.]'"),
+            (has("time", "add_offset", "x"), "add_offset of time should be one number, and is 'x'"),
+            (has("lon", "valid_max", []), "valid_max of lon should be one number, and is '[]'"),
+            (has("status", "valid_min", []), "valid_min of status should be one number, and is '[]'"),
+            (has("lon", "valid_range", [1]), "valid_range of lon should be two numbers, and is '1.0'"),
+            (has("lon", "_Unsigned", [1, 2]), "lon has attributes by which it can't be read"),
+        )
+        for change, wanted in rows:
+            with self.subTest(wanted), warnings.catch_warnings(record=True) as warned:
+                warnings.simplefilter("always")
+                said = self.refused(self.shaped, change)
+                self.assertTrue(said.startswith(f"[tracks] file: ensemble.nc: {wanted}"), said)
+                self.assertEqual([str(it.message) for it in warned], [])
+
+    def test_by_a_pipe(self):
+        """What is no regular file is told by what it begins with."""
+        wanted = self.netcdf([self.EAST])
+        os.mkfifo(f"{self.room}/pipe")
+        with open(f"{self.room}/ensemble.nc", "rb") as file:
+            text = file.read()
+        for its in (text, text[:3000]):
+            writer = threading.Thread(target=self.write, args=("pipe", its))
+            writer.start()
+            if its == text:
+                found = self.ensemble("pipe")
+            else:
+                self.assertIn("pipe: it isn't a whole netCDF file", self.refused(self.ensemble, "pipe"))
+            writer.join()
+        self.assertEqual((found.looks, found.said[0].split(" has ")[1]), (wanted.looks, wanted.said[0].split(" has ")[1]))
 
     def test_files_that_are_none(self):
         self.netcdf([self.EAST] * 2000)

@@ -227,7 +227,7 @@ class Join(Parts):
         shutil.copy(f"{folder}/parts/1", f"{folder}/parts/3")
         self.write("parts of it/parts/01", b"")
         self.write(b"parts of it/parts/\x1b[2J", b"")
-        self.lacks(folder, [("parts/\N{REPLACEMENT CHARACTER}[2J: ", "no part of this plan"), ("parts/01: ", "no part"), ("parts/3: ", "no part")], 2, 2)
+        self.lacks(folder, [(r"parts/\x1b[2J: ", "no part of this plan"), ("parts/01: ", "no part"), ("parts/3: ", "no part")], 2, 2)
 
     def test_a_plan_that_is_not_accepted(self):
         folder = self.filled(ROW, 1)

@@ -1,5 +1,6 @@
 """Tests what `osp brief` says of times, places and courses, and what comments of a scenario say. Places and courses come from PROJ 9.1.1
 (+proj=aeqd +ellps=WGS84) and its geodesics, the rest is worked by hand."""
+import re
 import unittest
 from fractions import Fraction
 
@@ -234,6 +235,11 @@ class Comments(unittest.TestCase):
         self.assertEqual((given.searcher.speed, given.grid.land), (6, frozenset({(1, 1)})))
         self.assertEqual(given, situation.situation("\n".join(it[4:] for it in LAND.splitlines()[1:]).encode()))
         self.assertIsNone(comments.situation_of(comments.lines(LAND.replace("speed = 6", "speed = x").encode())))
+        # Times at the calendar's ends are none of a search.
+        for begins in ("0001-01-01T00:00:00+14:00", "9999-12-31T23:59:59-12:00", "0001-01-01 00:00:00", "9999-12-31T23:59:59Z"):
+            changed, count = re.subn("(?m)^(# [|] begins = ).*$", rf"\g<1>{begins}", LAND, count=1)
+            self.assertEqual((count, comments.situation_of(comments.lines(changed.encode()))), (1, None))
+            self.assertIsNone(comments.times_of(comments.lines(TIMES.replace("23:20", begins).encode())))
         for begins, flown in (("23:20", 0), ("00:05", 3), ("00:06", None), ("23:05", None)):
             times = moments.Times(moments.Clock(moments.moment(begins)), Fraction(15))
             self.assertEqual(comments.Comments({}, None, times, given).flown(), flown, begins)

@@ -217,8 +217,14 @@ class Letters(Strained):
         self.assertIn("# | # here \N{REPLACEMENT CHARACTER}lalom", out)
         self.assertEqual([it for it in out if it in "\u202e\u2067\u200f"], [])
         self.assertEqual(writing.comment_line(b"a\x1b[31m\x07b\xc2\x9bc"), "# a\N{REPLACEMENT CHARACTER}[31m\N{REPLACEMENT CHARACTER}b\N{REPLACEMENT CHARACTER}c".encode())
-        _, _, said = self.ran("brief", "\x1b[2Jnone", "\u202eplan")
-        self.assertEqual([it for it in said if it in "\x1b\u202e"], [])
+        # What is quoted of a user's own words, and of the names of files, is told as escapes.
+        for words, wanted in (
+            (["brief", "\x1b[2Jn\u202eone", "plan"], r"cannot read \x1b[2Jn\u202eone: No such file or directory"),
+            (["explain", b"\xff"], r"cannot read \xff: No such file or directory"),
+        ):
+            self.assertIn(wanted, self.ran(*words)[2])
+        self.assertEqual(quoting.harmless("a\x1b\u202e\u2066\u2028\u200b\x9b\udcff"), r"a\x1b\u202e\u2066\u2028\u200b\x9b\xff")
+        self.assertEqual(quoting.word("a\tb\n"), r"a\tb\n")
         self.assertEqual(quoting.harmless("a\tb\nc \u00e9 \u05d0"), "a\tb\nc \u00e9 \u05d0")
 
     def test_a_folder_with_a_line_feed(self):

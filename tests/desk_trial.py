@@ -603,6 +603,13 @@ class Shown(Told):
         for what in (
             json.dumps({**found, "trial": 2}),
             json.dumps({**found, "count": "9"}),
+            json.dumps({**found, "count": int("9" * 400)}),
+            json.dumps({**found, "drifts": [[[int("9" * 400), 1]]]}),
+            json.dumps({**found, "drifts": [[[1, -int("9" * 400)]]]}),
+            '{"trial":1,"count":1,"drifts":[[[' + "9" * 5000 + ',1]]],"flown":[]}',
+            '{"trial":1,"count":1,"drifts":[[[1e400,1]]],"flown":[]}',
+            json.dumps({**found, "flown": [{**flown, "finds": int("9" * 400)}]}),
+            json.dumps({**found, "flown": [{**flown, "error": int("9" * 400)}]}),
             json.dumps({**found, "drifts": [[[1, "<b>"]]]}),
             json.dumps({**found, "drifts": [[[1, 2, 3]]]}),
             json.dumps({**found, "drifts": [[None] * 501]}),
