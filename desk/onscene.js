@@ -176,7 +176,7 @@ const onscene = { async begin(own, drawn) {
 
   // Plans the rest, has it checked, and shows it.
   async function attempt() {
-    const base = await carried.unpacked(document.getElementById("carried-base") === null ? "scenario" : "base");
+    const base = await carried.unpacked(scene.base);
     const made = await planned(base);
     const word = made.status === 0 && made.out.includes(`${BEHIND}gap `) ? "checkgap" : "check";
     const checked = made.status === 0 ? await carried.ask([word], made.bytes) : made;

@@ -75,8 +75,10 @@ def carried(search):
         "flown": of.flown,
         "gap": limits.MOST_GAP_RECORDS,
     }
-    scene = json.dumps(data).encode("ascii")
-    return {"scene": scene} if of.text == search.text else {"scene": scene, "base": of.text}
+    # (Where the page carries that scenario anyway, it isn't carried twice.)
+    where = next((name for name, it in (("scenario", search.text), ("of", search.told_by)) if it == of.text), "base")
+    scene = json.dumps(data | {"base": where}).encode("ascii")
+    return {"scene": scene, **({"base": of.text} if where == "base" else {})}
 
 
 def button(name, text, more=""):
