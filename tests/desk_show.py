@@ -456,7 +456,7 @@ class Unchecked(Drawing):
         self.assertEqual([it.text() for it in told.one("section", class_="numbers").all("dd", class_="sum")], [carried.sum_of(it) for it in example("kayaker")])
 
     def test_a_page_of_which_a_part_is_changed_shows_nothing(self):
-        """The parts are told by name, in red, and the plan as text stays."""
+        """The parts are told by name, in red, and the plan as text goes."""
         out = self.written(f"{EXAMPLES}/drifting-grid-flown.made", "--of", f"{EXAMPLES}/drifting-grid.scenario", "--from", "23:50", "--minutes", "7")
         scenario = example("drifting-grid")[0]
         pages = {
@@ -474,9 +474,9 @@ class Unchecked(Drawing):
         for name, its in zip([*pages, *broken], told, strict=True):
             with self.subTest(name):
                 head = tree(its["head"]["html"])
-                self.assertEqual((its["head"]["className"], head.one("span").text()), ("verdict refused", "This page is damaged, and nothing of it is shown"))
-                self.assertIn(f"not as they were are {name}. ", head.one("small").text())
-                self.assertEqual({*its}, {"head"})
+                self.assertEqual((its["head"]["className"], head.one("span").text()), ("verdict refused", "This page is damaged: do not fly by it"))
+                self.assertIn(f"Changed since it was made: {name}. ", head.one("small").text())
+                self.assertEqual((its.pop("shown"), {*its}), ({"html": ""}, {"head"}))
 
     def changed(self, out, name, change):
         """A page with the text of one of its templates changed."""
@@ -499,7 +499,7 @@ class Unchecked(Drawing):
         pages = [self.embedded(out, "plan", it).replace(carried.sum_of(example("two-cells")[1]), carried.sum_of(it)) for it in cases.values()]
         for said, its in zip(cases, self.opened(*pages), strict=True):
             self.assertEqual((its["head"]["className"], tree(its["head"]["html"]).one("span").text()), ("verdict refused", said))
-            self.assertEqual({*its}, {"head"}, said)
+            self.assertEqual((its.pop("shown"), {*its}), ({"html": ""}, {"head"}), said)
 
     def test_a_program_that_gives_no_verdict_leaves_it_unchecked(self):
         """Whatever it answers: no memory, another word than accepted, no map, or that of another path, or other masses."""
