@@ -96,7 +96,7 @@ const checked = (function () {
 
   // Begins, once the whole page is there: `sums` are the checksums of its parts. It is called by the last line of the page.
   async function begin(sums) {
-    const lacking = carried.lacking() || (globalThis.crypto?.subtle ? "" : "this browser makes no checksums for a page of this address: save it, and open the file");
+    const lacking = carried.lacking() || (globalThis.crypto?.subtle ? "" : filled("no_sums", {}));
     if (lacking) {
       unchecked(lacking);
       return;
