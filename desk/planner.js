@@ -40,17 +40,13 @@
   async function show(scenario, plan, word, checked) {
     const mapped = await carried.ask(["map", "flown", ...reading.plan(plan).path], scenario);
     const own = await shown.search(scenario, plan, mapped.out);
-    const { drawn, text } = shown.main(own);
-    const here = `Checked here, just now, by the proved program (${checked.seconds.toFixed(2)} s).`;
+    const here = markup.filled("checked_here", { seconds: checked.seconds.toFixed(2) });
+    shown.put(at("shown"), own, shown.main(own));
     at("name").textContent = name;
     at("chance").innerHTML = tables.chance(own);
     at("verdict").replaceChildren(told.element("span", tables.verdict(own)), " ", told.element("small", here));
     at("about").textContent = shown.about(own);
-    at("states").media = drawn !== null && drawn.parted.length ? "all" : "not all";
-    at("pair").media = own.seats.count > 1 ? "all" : "not all";
-    at("shown").className = drawn === null ? "" : "with-map";
-    at("shown").innerHTML = text;
-    Object.entries(drawn === null ? {} : shown.sizes(drawn)).forEach(([name, size]) => at("shown").style.setProperty(name, size));
+    at("found").querySelector(".verdict").classList.add("good");
     told.save(at("save"), plan, `${name}.${word === "check" ? "plan" : "gap"}`);
     told.save(at("made"), carried.joined(scenario, plan), `${name}.made`);
     at("report").hidden = word !== "check";
@@ -64,6 +60,7 @@
   // Takes away what is shown of another plan.
   function forget() {
     at("found").hidden = at("shown").hidden = true;
+    at("found").querySelector(".verdict").classList.remove("good");
     at("shown").replaceChildren();
     maps.begin();
   }
@@ -155,4 +152,5 @@
   at("check").addEventListener("click", () => attempt("Checking", check));
   at("stop").addEventListener("click", () => carried.stop());
   at("plan").disabled = at("check").disabled = false;
+  carried.tellSum();
 }());

@@ -6,7 +6,7 @@ import random
 import typing
 import unittest
 
-from desk import brief, derived, forms, onscene, seats, show, writing
+from desk import brief, derived, forms, onscene, seats, writing
 from tests import pages, web
 from tests.carrying import Carrying
 from tests.desk_steering import CORNER, PLACES, TIMES
@@ -122,8 +122,7 @@ class Scenes(Carrying):
         self.assertEqual((status, err), (0, ""))
         self.assertEqual(seen["radio"], text)
         self.assertEqual(seen["verdict"].split(" Checked here")[0], text.splitlines()[1])
-        status, shown, err = self.run_helper(show.main, told)
-        tree = pages.tree(shown)
+        tree = self.shown(*told)
         rows = [[cell.text() for cell in row.all("td")] for row in tree.one(class_="periods").one("tbody").all("tr")]
         self.assertEqual([it[3] for it in seen["rows"]], [it[-1].split("\N{NO-BREAK SPACE}")[0] + " %" for it in rows])
         maps = list(tree.all("figure", id=f"after-{flown}"))

@@ -1,7 +1,8 @@
 """Opens pages that check themselves in a browser without a window, and writes what they say as JSON to standard output.
 
 It is run by /usr/bin/python3: web_in_browser.py chromium|firefox FOLDER PAGE.html ... The folder takes the pictures, on a desktop and on a
-tablet. From a page whose name begins with "without" WebAssembly is taken away first; on one whose name begins with "scene" looks are marked as
+tablet. One whose name begins with "tampered" is opened once, without a picture; from one whose name begins with "without" WebAssembly is
+taken away first; on one whose name begins with "scene" looks are marked as
 flown, and the rest is planned; in one whose name begins with "osp" scenarios are planned, and of one whose name begins with "shown" it is said
 what it shows. It ends as in_browser.py does where there is no browser.
 """
@@ -13,25 +14,22 @@ import time
 sys.dont_write_bytecode = True
 sys.path.insert(0, os.path.dirname(os.path.realpath(__file__)))
 import browsers  # noqa: E402
-from in_browser import DESKTOP, Keys, Visit  # noqa: E402
+from in_browser import DESKTOP, SECONDS, Keys, Visit  # noqa: E402
 
 TABLET = (820, 1180)
-# How many seconds a page has until it says something, on a machine that others keep busy.
-SECONDS = 120
 
 
 def settled(visit):
-    """What the head of the page says, once it says it."""
-    ends = time.monotonic() + SECONDS
-    while visit.run("return document.getElementById('verdict').innerText").find("Being checked") >= 0 and time.monotonic() < ends:
-        time.sleep(0.1)
+    """What the head of the page says, once it says it, and in which colours; and what is shown below."""
+    visit.settle()
     return visit.run(
         """
         const seen = (it) => it && it.innerText;
-        const colour = getComputedStyle(document.querySelector("#verdict span")).color;
+        const colours = [getComputedStyle(document.querySelector("#head span")).color, getComputedStyle(document.getElementById("head")).borderLeftColor];
         return {
-          said: seen(document.querySelector("#verdict span")), by: seen(document.querySelector("#verdict small")),
-          worth: seen(document.querySelector(".worth")), colour, wide: document.documentElement.scrollWidth - window.innerWidth,
+          said: seen(document.querySelector("#head span")), by: seen(document.querySelector("#head small")), head: seen(document.getElementById("head")),
+          worth: seen(document.querySelector(".worth")), colours, wide: document.documentElement.scrollWidth - window.innerWidth,
+          maps: document.querySelectorAll("svg.map").length, text: seen(document.getElementById("text")), body: document.body.innerText,
         };"""
     )
 
@@ -111,7 +109,7 @@ def drawn(visit):
     """What a page shows below its head, as markup, and how the map that is to be seen is drawn: of each of its elements what the style says."""
     return visit.run(
         """
-        const shown = document.querySelector("#planner-shown") || document.querySelector("main");
+        const shown = document.querySelector("#planner-shown, #shown");
         const map = shown.querySelector(".frame:not([hidden]) svg.map");
         const told = (it) => ["fill", "stroke", "strokeWidth", "fontSize", "width", "height", "display"].map((key) => getComputedStyle(it)[key]);
         return { markup: shown.innerHTML, styles: map && [...map.querySelectorAll("*")].map((it) => [it.tagName, ...told(it)]) };"""
@@ -212,8 +210,17 @@ def shown(seen_by, page, folder):
     return drawn(visit) | visit.browser.logs()
 
 
+def tampered(seen_by, page, folder):
+    """What a page says, at a tablet's width."""
+    visit = Visit(seen_by, page, folder)
+    visit.open(TABLET)
+    return settled(visit) | visit.browser.logs()
+
+
 def opened(seen_by, page, folder):
     """The same for a page from which WebAssembly may be taken away."""
+    if os.path.basename(page).startswith("tampered"):
+        return tampered(seen_by, page, folder)
     if os.path.basename(page).startswith("scene"):
         return on_scene(seen_by, page, folder)
     if os.path.basename(page).startswith("osp"):
