@@ -4,6 +4,7 @@ import os
 import re
 import signal
 import subprocess
+import sys
 
 from tests.house import FAILED, SIGNALS, STAND_IN_PROGRAM, TOP, UNPROVED, InHouse, Ran, read, run
 
@@ -301,6 +302,25 @@ class Signals(InHouse):
         self.house.built()
         for number in (signal.SIGTERM, signal.SIGINT, signal.SIGKILL):
             self.house.stops(number, "wait")
+
+
+    def test_just_before_a_wait(self):
+        """a signal that comes in the very instant before a program is waited for ends the wait"""
+        # (It waits to be taken already when the wait begins.)
+        lines = f"""import os, signal, sys
+sys.path.insert(0, {TOP!r})
+from door import running, signals
+signals.watch()
+process = running.begin(["sleep", "600"])
+signal.pthread_sigmask(signal.SIG_BLOCK, [signal.SIGTERM])
+os.kill(os.getpid(), signal.SIGTERM)
+try:
+    running.end_of(process)
+except signals.Stopped as it:
+    print("stopped by", it.number)
+running.KEPT.end_children()
+"""
+        run([sys.executable, "-c", lines], timeout=60).gives(0, f"stopped by {int(signal.SIGTERM)}\n", "")
 
 
 class Building(InHouse):
