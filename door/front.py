@@ -220,6 +220,7 @@ def main(given):
     # (What was told to the process that runs this isn't for those that it starts.)
     os.environ.pop(files.TOLD, None)
     signals.unwatch()
+    signals.see_children()
     saying.see_streams()
     try:
         status = run(given)

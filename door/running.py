@@ -1,5 +1,6 @@
 """Runs another program: hands on signals that come meanwhile, tells the seconds on a terminal, and leaves nothing behind."""
 import os
+import select
 import time
 
 from door import saying, signals
@@ -9,6 +10,8 @@ from door.signals import signal
 # On a terminal the seconds are told after so many of them.
 SILENT = 2
 MIB = 1 << 20
+# How long a wait for input goes on before it is looked whether a signal came, in seconds.
+PATIENCE = 0.5
 
 
 def time_of(seconds):
@@ -99,7 +102,9 @@ def become(words, out, err, folder):
 
 
 def begin(words, out=None, err=None, folder="", given=None):
-    """Starts a program, with descriptors for its output, its standard error and its input, in a folder; answers its process."""
+    """Starts a program, with descriptors for its output, its standard error and its input, in a folder; answers its process. (That it ends
+    is told by a signal, which waits for `end_of`.)"""
+    signal.pthread_sigmask(signal.SIG_BLOCK, [signal.SIGCHLD])
     with signals.held():
         process = os.fork()
         if process:
@@ -109,7 +114,7 @@ def begin(words, out=None, err=None, folder="", given=None):
             if given is not None:
                 os.dup2(given, 0)
             become(words, out, err, folder)
-            signal.pthread_sigmask(signal.SIG_UNBLOCK, signals.SIGNALS)
+            signal.pthread_sigmask(signal.SIG_UNBLOCK, [*signals.SIGNALS, signal.SIGCHLD])
             os.execvp(words[0], words)
         except OSError as why:
             tell(f"osp: {words[0]}: {why.strerror}")
@@ -118,9 +123,17 @@ def begin(words, out=None, err=None, folder="", given=None):
 
 
 def end_of(process):
-    """Waits for a program, and answers its exit status, or the number of the signal that ended it, below 0."""
-    _, status = os.waitpid(process, 0)
-    KEPT.children.discard(process)
+    """Waits for a program, and answers its exit status, or the number of the signal that ended it, below 0. (All signals are taken here one
+    by one: a handler would be called only behind a wait that begins in the very instant of the signal.)"""
+    with signals.held():
+        found, status = os.waitpid(process, os.WNOHANG)
+        while not found:
+            came = signal.sigwaitinfo([*signals.watched(), signal.SIGCHLD]).si_signo
+            if came != signal.SIGCHLD:
+                raise signals.Stopped(came)
+            found, status = os.waitpid(process, os.WNOHANG)
+        KEPT.children.discard(process)
+    signal.pthread_sigmask(signal.SIG_UNBLOCK, [signal.SIGCHLD])
     return os.waitstatus_to_exitcode(status)
 
 
@@ -168,6 +181,9 @@ def copy(begin_at, end_at, most=None):
     """Copies what can be read of one descriptor to another one, at most so many bytes. Raises OSError."""
     left = most
     while left is None or left > 0:
+        # (A signal in the very instant before a read is seen when a wait ends, and a read of a pipe may never do so.)
+        while not select.select([begin_at], [], [], PATIENCE)[0]:
+            pass
         part = os.read(begin_at, MIB if left is None else min(MIB, left))
         if not part:
             return

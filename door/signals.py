@@ -36,6 +36,11 @@ def unwatch():
         signal.signal(it, signal.SIG_DFL)
 
 
+def see_children():
+    """Lets this process be told of the end of programs that it starts, also where that was ignored when it began."""
+    signal.signal(signal.SIGCHLD, signal.SIG_DFL)
+
+
 class Held:
     """Holds these signals back as long as something has to be done whole, by `with`. They come behind it."""
 

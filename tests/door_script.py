@@ -4,6 +4,8 @@ import os
 import re
 import signal
 import subprocess
+import sys
+import time
 
 from tests.house import FAILED, SIGNALS, STAND_IN_PROGRAM, TOP, UNPROVED, InHouse, Ran, read, run
 
@@ -251,6 +253,48 @@ class Proved(InHouse):
         self.house.run("plan", with_rt=False).gives(0, "words <plan>\n", "")
 
 
+class Cost(InHouse):
+    """What a proved run does besides running the program."""
+
+    def test_what_is_imported(self):
+        """a proved run by files imports no module that takes long to begin"""
+        self.house.built()
+        self.house.write("lake", "text\n")
+        # (In the place of Python: it tells what the run has imported when the program takes its place.)
+        tells = f"""#!/bin/sh
+exec {os.path.realpath("/usr/bin/python3")} -I -S -B -c 'import os, sys
+name = next(it for it in sys.argv if it.endswith("__main__.py"))
+sys.argv = sys.argv[sys.argv.index(name):]
+os.execvp = lambda *_: (os.write(1, " ".join(sys.modules).encode()), os._exit(0))
+exec(compile(open(name).read(), name, "exec"), {{"__name__": "__main__", "__file__": name}})' "$@"
+"""
+        self.house.write("bin/python3", tells, 0o755)
+        found = self.house.run("plan", f"{self.house.at}/lake").gives(0, None, "").out.split()
+        self.assertTrue({"door.front", "door.running", "door.files", "door.sources"} <= {*found}, found)
+        slow = {"argparse", "collections", "contextlib", "dataclasses", "enum", "functools", "hashlib", "re", "shutil", "signal", "subprocess", "tempfile", "typing"}
+        self.assertEqual(slow & {*found}, set())
+
+    def test_sources_that_stand_still(self):
+        """sources that didn't change aren't read again, and a change that keeps size and time is seen all the same"""
+        self.house.built()
+        at = f"{self.house.at}/crates/low/src/lib.rt"
+        # (What has just changed is read in each run.)
+        time.sleep(2.1)
+        self.house.run("plan").gives(0, "words <plan>\n", "")
+        kept = f"{self.house.at}/crates/osp/out/osp.seen"
+        before = os.stat(kept)
+        self.house.run("plan").gives(0, "words <plan>\n", "")
+        self.assertEqual(os.stat(kept).st_ino, before.st_ino, "all was read again")
+        was = os.stat(at)
+        self.house.write("crates/low/src/lib.rt", "LOW src/lib.rt\n")
+        os.utime(at, ns=(was.st_atime_ns, was.st_mtime_ns))
+        self.assertEqual(os.stat(at).st_size, was.st_size)
+        self.house.run("plan").gives(0, "words <plan>\n", UNPROVED + "crates/low/src/lib.rt isn't as it was")
+        self.house.write("crates/low/src/lib.rt", "low src/lib.rt\n")
+        self.house.write("crates/middle/specs/More.antt", "more\n")
+        self.house.run("plan").gives(0, "words <plan>\n", "proved before these edits")
+
+
 class Places(InHouse):
     """From where the script is called."""
 
@@ -301,6 +345,25 @@ class Signals(InHouse):
         self.house.built()
         for number in (signal.SIGTERM, signal.SIGINT, signal.SIGKILL):
             self.house.stops(number, "wait")
+
+
+    def test_just_before_a_wait(self):
+        """a signal that comes in the very instant before a program is waited for ends the wait"""
+        # (It waits to be taken already when the wait begins.)
+        lines = f"""import os, signal, sys
+sys.path.insert(0, {TOP!r})
+from door import running, signals
+signals.watch()
+process = running.begin(["sleep", "600"])
+signal.pthread_sigmask(signal.SIG_BLOCK, [signal.SIGTERM])
+os.kill(os.getpid(), signal.SIGTERM)
+try:
+    running.end_of(process)
+except signals.Stopped as it:
+    print("stopped by", it.number)
+running.KEPT.end_children()
+"""
+        run([sys.executable, "-c", lines], timeout=60).gives(0, f"stopped by {int(signal.SIGTERM)}\n", "")
 
 
 class Building(InHouse):
