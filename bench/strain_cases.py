@@ -333,7 +333,7 @@ def limits(rng):
     out = None if found[0] == "split" else "out"
     words_of = written(found, "out") if out else found
     files = {**TEXTS, **({"out": b"old"} if out else {})}
-    return Case("limits", words_of, files, line=f'ulimit {most}; exec "$0" "$@"', out=out, made=made(found), more=frozenset({0, 6, 7, 70, *([-9, -24] if "-t" in most else [])}))
+    return Case("limits", words_of, files, line=f'ulimit {most}; exec "$0" "$@"', out=out, made=made(found), more=frozenset({0, 6, 7, 70, *([-9, -24] if "-t" in most else [-25] if "-f" in most else [])}))
 
 
 def environments(rng):

@@ -190,8 +190,10 @@ def faults_of_status(case, it):
         return
     if it.status not in case.statuses:
         yield f"status {it.status} is none of {sorted(case.statuses)}"
-    is_told = case.command in ("check", "checkgap") and it.status == 1 or case.command == "explain" and (it.out or case.out)
-    if it.status > 0 and not it.said.strip() and not is_told and "2>" not in (case.line or "") and not case.signal:
+    is_told = case.command in ("check", "checkgap") and it.status == 1 or case.command == "explain" and (it.out or "-o" in case.words)
+    # (Where standard error is closed or full, as files are with no room for a byte, nothing can be said.)
+    can_say = not any(each in (case.line or "") for each in ("2>", "ulimit -f"))
+    if it.status > 0 and not it.said.strip() and not is_told and can_say and not case.signal:
         yield f"status {it.status} without a line on standard error"
     if it.out and it.status not in ANSWERED and case.command != "explain" and not case.signal:
         yield f"status {it.status} with {len(it.out)} bytes on standard output"

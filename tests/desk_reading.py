@@ -137,7 +137,7 @@ class Pipes(Room):
         rows = [f"{at},2026-07-04T{time}:00,{900 + at},{1200 + at}" for at in range(40) for time in ("18:00", "19:30", "22:00")]
         tracks = self.write("e.csv", "\n".join(["id,time,x,y", *rows, ""]).encode())
         dated = read(KAYAKER).replace(b'begins = "19:30"', b'begins = "2026-07-04 19:30"')
-        situation = self.write("s.toml", dated)
+        situation = self.write("s.toml", dated + FEW)
         for line, name in (('"$0" trial "$1" --pattern all --tracks <(cat "$2")', None), ('"$0" trial "$1" --pattern all --tracks - < "$2"', "standard input")):
             status, out, said = self.ran(line, situation, tracks)
             wanted = self.ran('"$0" trial "$1" --pattern all --tracks "$2"', situation, tracks)
