@@ -3,7 +3,7 @@ tasking form."""
 import re
 import textwrap
 
-from desk import accepted, clock, comments, earth, geometry, masses, percent, running, steering, tables, tried
+from desk import accepted, clock, comments, earth, geometry, masses, percent, running, sentences, steering, tried
 from desk.markup import filled
 
 WORDS = clock.words_of("brief", "writes the same as plain text, for a radio or a tasking form")
@@ -142,22 +142,31 @@ def left(search):
 
 def chance(search):
     """The name of what says the chance, and what it says besides: of how many looks, and from where."""
-    slots = {"looks": tables.plural(search.sc.horizon, "look"), "start": search.seats.where(search.sc.start)}
+    slots = {"looks": sentences.plural(search.sc.horizon, "look"), "start": search.seats.where(search.sc.start)}
     return "brief_chance" if search.seats.count == 1 else "brief_chance_each", slots
 
 
 def text_of(search, told):
     """The whole text."""
+    return text_with(search, told, sentences.verdict(search), search.checked_by)
+
+
+def unchecked_text(search, told):
+    """The whole text, but for what accepted the plan: for a page, which has that checked where it is read."""
+    return text_with(search, told, f"{filled('unchecked')}.")
+
+
+def text_with(search, told, *verdict):
+    """The whole text, with these lines for its verdict."""
     name, slots = chance(search)
     lines = [
         filled("brief_title", name=search.name),
-        tables.verdict(search),
-        search.checked_by,
+        *verdict,
         filled(name, share=search.report.percent, **slots),
-        *(line for it in tables.about_trial(search) for line in textwrap.wrap(it, WIDTH)),
+        *(line for it in sentences.about_trial(search) for line in textwrap.wrap(it, WIDTH)),
         *(told.times.about() if told.times else []),
-        *tables.about_flown(search),
-        *tables.about_names(search),
+        *sentences.about_flown(search),
+        *sentences.about_names(search),
         "",
         *periods(search, told.times),
         *(line for who in range(search.seats.count) for line in steered(search, told, who)),

@@ -13,6 +13,12 @@ const carried = (function () {
     return new Uint8Array(await new Response(stream).arrayBuffer());
   }
 
+  // Says everywhere in the page what the SHA-256 of the program is that the page carries.
+  async function tellSum() {
+    const sum = await told.sha256(await unpacked("program"));
+    document.querySelectorAll(".program-sum").forEach((it) => { it.textContent = sum; });
+  }
+
   // A scenario and a plan as one input, with a line feed between them where the scenario lacks its last one.
   function joined(scenario, plan) {
     const feed = scenario[scenario.length - 1] === 10 ? 0 : 1;
@@ -65,5 +71,5 @@ const carried = (function () {
     }
   }
 
-  return { unpacked, joined, lacking, ask, stop };
+  return { unpacked, tellSum, joined, lacking, ask, stop };
 }());

@@ -8,15 +8,12 @@ import hashlib
 import json
 import os
 import zlib
-from html import escape
 
-from desk import accepted, onscene, program
+from desk import accepted, program
 
 HERE = os.path.dirname(os.path.realpath(__file__))
 # Where the module stands beside the program, in a checkout and in a release.
 PLACES = ["crates/osp/out/osp", "program/osp"]
-# The parts of the script of a page of a plan.
-PARTS = ["checked.js", "told.js", "markup.js", "sentences.js", "radio.js", "recoloured.js", "onscene.js"]
 # What the policy of a page allows beside its own script: to compile WebAssembly, and a worker of the page's own making.
 SCRIPTS, MORE = " 'wasm-unsafe-eval'", " worker-src blob:;"
 
@@ -77,34 +74,6 @@ def script(*parts):
     return f"const WORKER = {json.dumps(worker()).replace('<', chr(92) + 'u003c')};\n{parts}"
 
 
-def style():
-    """The style of the verdict, and of the part for what was flown."""
-    return asset("carried.css") + asset("onscene.css")
-
-
-def worth(content):
-    """What a verdict of the module is worth."""
-    return (
-        '<p class="note worth">What this is worth: it guards against a wrong plan, not against a forged page. '
-        f"Compare the SHA-256 of the program in this page with that of a release: <code>{sum_of(content)}</code></p>"
-    )
-
-
 def templates(parts):
     """Templates that hold bytes, by name."""
     return "".join(f'<template id="carried-{name}">{packed(it)}</template>\n' for name, it in parts.items())
-
-
-def verdict(search, said, content):
-    """The verdict in the head of a page: what was said when it was made, which the script replaces by what it finds, and what it is worth."""
-    return (
-        f'<p class="accepted" id="verdict" data-word="{accepted.check_of(search.plan)}"><span>{escape(said)}</span><small>{escape(search.checked_by)}</small></p></div>'
-        f"{worth(content)}"
-    )
-
-
-def blocks(search, drawn, told, content):
-    """What stands behind the rest of a page: the part for what was flown, and the templates that hold the module, the scenario, the plan, and
-    what that part needs."""
-    parts = {"program": content, "scenario": search.text, "plan": search.plan, **onscene.carried(search, drawn, told)}
-    return onscene.section(search) + templates(parts)

@@ -1,44 +1,106 @@
-// The program checks the plan that the page carries, and the head of the page says what came of it.
-(function () {
-  const verdict = document.getElementById("verdict");
-  const [said, by] = [verdict.querySelector("span"), verdict.querySelector("small")];
-  const made = by.textContent;
-  const ACCEPTED = 0;
-  const REJECTED = 1;
-  const UNREAD = [3, 4];
+// The page's own data are held against their checksums, the program checks the plan that the page carries, and from that plan, once it is
+// accepted, all is drawn that is shown. Whatever goes wrong before leaves the words that nothing is checked, or says in red what is wrong.
+const checked = (function () {
+  const [ACCEPTED, REJECTED, UNREAD] = [0, 1, [3, 4]];
+  const { filled } = markup;
+  const at = (id) => document.getElementById(id);
+
+  // What is said in place of a verdict, and by whom, or why; in red where something is wrong.
+  function say(said, by, isWrong) {
+    at("head").className = isWrong ? "verdict refused" : "verdict";
+    at("head").innerHTML = filled("told_verdict", { said: markup.escaped(said), by: markup.escaped(by) });
+  }
 
   function unchecked(why) {
-    by.textContent = `Not checked here: ${why}. When this page was made: ${made}`;
+    say(filled("unchecked", {}), `Nothing is checked here: ${why}.`, false);
   }
 
-  function judge(answer) {
-    const here = `Checked here, just now, by the proved program (${answer.seconds.toFixed(2)} s).`;
-    const told = (answer.out || answer.err).trim();
-    if (answer.status === ACCEPTED) {
-      by.textContent = here;
-    } else if (answer.status === REJECTED || UNREAD.includes(answer.status)) {
-      const reason = told.replace(/^rejected (\d+) /, "line $1 of the plan, ");
-      said.textContent = answer.status === REJECTED ? `Rejected: ${reason}.` : `Not accepted: ${told}.`;
-      by.textContent = here;
-      document.querySelector(".verdict").classList.add("refused");
+  // What the program wrote of a plan that it doesn't accept.
+  function refuse(answer) {
+    const text = (answer.out || answer.err).trim();
+    const here = filled("checked_here", { seconds: answer.seconds.toFixed(2) });
+    if (answer.status === REJECTED) {
+      say(`Rejected: ${text.replace(/^rejected (\d+) /, "line $1 of the plan, ")}.`, here, true);
+    } else if (UNREAD.includes(answer.status)) {
+      say(`Not accepted: ${text}.`, here, true);
     } else {
-      unchecked(`the program ended with status ${answer.status} (${told})`);
+      unchecked(`the program ended with status ${answer.status} (${text})`);
     }
   }
 
-  async function check() {
-    if (carried.lacking()) {
-      unchecked(carried.lacking());
+  // All parts that the page carries, as bytes by name, and those that aren't what was written: the checksums of these are `sums`, by name.
+  async function parts(sums) {
+    const [found, wrong] = [{}, []];
+    for (const [name, sum] of Object.entries(sums)) {
+      const bytes = name === "text" ? new TextEncoder().encode(at("text").textContent) : await carried.unpacked(name).catch(() => null);
+      found[name] = bytes;
+      wrong.push(...(bytes !== null && (await told.sha256(bytes)) === sum ? [] : [name]));
+    }
+    return { found, wrong };
+  }
+
+  // Asks the program for the verdict, and for the masses behind each look of an accepted plan: all that is shown of it.
+  async function asked({ scenario, plan, of, known }) {
+    const both = carried.joined(scenario, plan);
+    const [own, behind] = reading.parts(both);
+    const word = new TextDecoder().decode(behind.subarray(0, 4)) === "gap " ? "checkgap" : "check";
+    const answer = await carried.ask([word], both);
+    if (answer.status !== ACCEPTED || answer.out !== "accepted\n") {
+      return { answer };
+    }
+    const map = await carried.ask(["map", "flown", ...reading.plan(behind).path], own);
+    if (map.status !== ACCEPTED) {
+      return { answer: map };
+    }
+    const more = JSON.parse(new TextDecoder().decode(known));
+    return { answer, search: await shown.search(scenario, behind, map.out, { ...more, of }) };
+  }
+
+  // Shows an accepted plan, and no part of it where one can't be drawn.
+  function show(answer, search) {
+    const [drawing, head] = [shown.main(search), shown.head(search, filled("checked_here", { seconds: answer.seconds.toFixed(2) }))];
+    const text = radio.text(search.radio, radio.of(search));
+    shown.put(at("shown"), search, drawing);
+    at("notes").innerHTML = head.notes;
+    at("radio-text").textContent = text;
+    at("radio").hidden = at("worth").hidden = false;
+    at("head").className = "verdict good";
+    at("head").innerHTML = head.verdict;
+    [maps, drifts, where].forEach((it) => it.begin());
+    return drawing.drawn;
+  }
+
+  // Checks what the page carries, by the checksums of its parts, and shows what came of it. Nothing is shown of what isn't whole.
+  async function checkedOf(sums) {
+    const { found, wrong } = await parts(sums);
+    if (wrong.length > 0) {
+      say(filled("damaged", {}), filled("damaged_parts", { parts: wrong.map((it) => filled(`part_${it}`, {})).join(", ") }), true);
       return;
     }
-    by.textContent = "Being checked here …";
+    await carried.tellSum();
+    const { answer, search } = await asked(found);
+    if (search === undefined) {
+      refuse(answer);
+      return;
+    }
+    const drawn = show(answer, search);
+    await onscene.begin(search, drawn).catch((why) => onscene.lacks(why));
+  }
+
+  // Begins, once the whole page is there: `sums` are the checksums of its parts. It is called by the last line of the page.
+  async function begin(sums) {
+    const lacking = carried.lacking() || (globalThis.crypto?.subtle ? "" : "this browser makes no checksums for a page of this address: save it, and open the file");
+    if (lacking) {
+      unchecked(lacking);
+      return;
+    }
+    say(filled("unchecked", {}), "Being checked here …", false);
     try {
-      const [scenario, plan] = [await carried.unpacked("scenario"), await carried.unpacked("plan")];
-      judge(await carried.ask([verdict.dataset.word], carried.joined(scenario, plan)));
+      await checkedOf(sums);
     } catch (why) {
       unchecked(`the browser stopped it (${why.message})`);
     }
   }
 
-  check();
+  return { begin };
 }());

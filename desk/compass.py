@@ -1,96 +1,68 @@
-"""The scale and the north arrow of a map, and where on the earth its points are."""
-import json
-from html import escape
+"""Where on the earth the points of a map are: what a page has to know so that it can say it, and so that its arrow points to true north."""
+from desk import earth, geojson, layout, meridian
 
-from desk import earth, geojson, meridian
-from desk.markup import filled
-
-# How high the strip below the squares is, and how far its drawings lie from the edges, in units of the picture.
-HEIGHT, ASIDE = 50, 20
-# How long the scale is at most, in sides of a square and as a share of the map.
-MOST_SIDES, MOST_SHARE = 2.5, 0.6
-# From how many degrees between up and true north on it is said.
-TURNED = 0.5
+# How far a map goes beyond the middles of its squares, and how high the strip below them is, in sides of a square.
+AROUND, STRIP = 0.64, 0.5
 # Degrees of nodes are written with so many digits, and there are so many at most along a side of the map, by whose number no place between
-# them is off by more than half a metre.
-DIGITS, MOST_NODES = 7, 32
+# them is off by more than half a metre. Metres have so many digits.
+DIGITS, MOST_NODES, OF_METRES = 7, 32, 3
 
 
-def scale(drawn):
-    """The metres of the scale of a picture: 1, 2 or 5 times a power of ten, as long as fits."""
-    most = min(MOST_SIDES, MOST_SHARE * drawn.columns()) * drawn.layout.side
-    return max(first * 10**power for power in range(-3, 8) for first in (1, 2, 5) if first * 10**power <= most)
+def points(search, laid):
+    """The places of all squares, and of all positions of the path that are drawn, in metres east and south."""
+    sources = (it for frame in search.frames for it in search.seats.sources[frame.position] if it is not None)
+    return [it for it in [*laid.squares, *(laid.positions[it] for it in sources)] if it]
 
 
-def told(metres):
-    """A length as it is written beside the scale."""
-    return f"{metres / 1000:g} km" if metres >= 1000 else f"{metres:g} m"
+def box_of(search, laid):
+    """The box of a map in metres: its corner in the north-west, its width, and its height, the strip below the squares included."""
+    low, high = ([of(it) for it in zip(*points(search, laid))] for of in (min, max))
+    around = AROUND * laid.side
+    wide, long = (last - first + 2 * around for first, last in zip(low, high))
+    return [*(it - around for it in low), wide, long + STRIP * laid.side]
 
 
-def turned(drawn, frame):
-    """The true bearing of up in the middle of a picture, in degrees."""
-    return frame.up(*place(drawn, *(low + size / 2 for low, size in zip(drawn.low, drawn.size)))) if frame else 0.0
+def up(box, frame):
+    """The true bearing of up in the middle of what is drawn of squares, in degrees."""
+    x, y, wide, high = box
+    return frame.up(x + wide / 2, y + high / 2)
 
 
-def place(drawn, x, y):
-    """A point of a picture in metres east and south."""
-    return x / drawn.scale + drawn.left, y / drawn.scale + drawn.top
-
-
-def add(drawn, frame):
-    """Lets a picture whose places are metres have a strip below its squares, with a scale and an arrow to true north; and where a
-    desk.earth.Frame says where these are, the line that says where the pointer is."""
-    if not drawn.layout.metres:
-        return
-    metres, x, bottom = scale(drawn), drawn.low[0], drawn.low[1] + drawn.size[1] + HEIGHT / 2
-    long, east, up = metres * drawn.scale, x + drawn.size[0] - ASIDE, round(turned(drawn, frame), 1)
-    bar = f"M{x + ASIDE:.1f} {bottom - 7:.1f}v14m0 -7h{long:.1f}m0 -7v14"
-    turn = f' transform="rotate({-up:.1f} {east:.1f} {bottom:.1f})"' if up else ""
-    arrow = f"M{east:.1f} {bottom - 20:.1f}l9 36l-9 -8l-9 8z"
-    drawn.size[1] += HEIGHT
-    low = f"{bottom + 6:.1f}"
-    drawn.below = filled("scale", bar=bar, x=f"{x + ASIDE + long + 10:.1f}", y=low, length=told(metres))
-    drawn.below += filled("north", turn=turn, arrow=arrow, x=f"{east - 24:.1f}", y=low)
-    drawn.where = pointed(drawn, frame) if frame else ""
-
-
-def north(drawn, frame):
-    """What is said of north."""
-    up = turned(drawn, frame)
-    if abs(up) < TURNED:
-        return filled("north_is_up")
-    return f"The arrow shows true north in the middle of the map, {abs(up):.1f} degrees to the {'left' if up > 0 else 'right'} of up"
-
-
-def nodes(drawn, frame):
-    """Where the nodes of a mesh over a picture lie on the earth, row by row: the rows and columns of its lines, latitudes, and longitudes
-    that go on beyond half a turn."""
-    latitude = max((frame.to_earth(*place(drawn, *it))[0] for it in corners(drawn)), key=abs)
-    count = min(geojson.pieces(max(drawn.size) / drawn.scale, latitude), MOST_NODES)
-    found = []
-    for row in range(count + 1):
-        for column in range(count + 1):
-            at = (low + size * it / count for low, size, it in zip(drawn.low, drawn.size, (column, row)))
-            north, east = frame.to_earth(*place(drawn, *at))
-            found.append((meridian.nearest(east, frame.longitude), north))
-    return count, found
-
-
-def corners(drawn):
-    """The corners of a picture."""
-    (x, y), (wide, high) = drawn.low, drawn.size
+def corners(box):
+    """The corners of a box."""
+    x, y, wide, high = box
     return [(x, y), (x + wide, y), (x, y + high), (x + wide, y + high)]
 
 
-def pointed(drawn, frame):
-    """The line of a page that says where on the earth the pointer is."""
-    count, found = nodes(drawn, frame)
-    given = {
-        "box": [round(it, 1) for it in (*drawn.low, *drawn.size)],
+def nodes(box, frame):
+    """Where the nodes of a mesh over a box lie on the earth, row by row: the rows and columns of its lines, and pairs of longitudes that go on
+    beyond half a turn, and latitudes."""
+    latitude = max((frame.to_earth(*it)[0] for it in corners(box)), key=abs)
+    count = min(geojson.pieces(max(box[2:]), latitude), MOST_NODES)
+    found = []
+    for at in range((count + 1) ** 2):
+        row, column = divmod(at, count + 1)
+        north, east = frame.to_earth(box[0] + box[2] * column / count, box[1] + box[3] * row / count)
+        found.append((meridian.nearest(east, frame.longitude), north))
+    return count, found
+
+
+def mesh(search, frame):
+    """What a page has to know of where on the earth its map is, by a desk.earth.Frame, which may be None: the box and the nodes of a mesh over
+    the map, the corner of the area as it is told, and the true bearing of up. None where no map in metres is drawn."""
+    try:
+        laid = frame and layout.layout(search.seats.of, search.told_by)
+    except layout.NoPlaces:
+        laid = None
+    if not laid or not laid.metres:
+        return None
+    box = box_of(search, laid)
+    count, found = nodes(box, frame)
+    return {
+        "box": [round(it, OF_METRES) for it in box],
         "count": count,
         "latitudes": [round(it[1], DIGITS) for it in found],
         "longitudes": [round(it[0], DIGITS) for it in found],
+        "corner": earth.told(*frame.to_earth(0, 0)),
+        "up": round(up([*box[:3], box[3] - STRIP * laid.side], frame), OF_METRES),
     }
-    corner = earth.told(*frame.to_earth(0, 0))
-    text = f"Point at the map, and this line says where that is on the earth. The area's north-west corner is at {corner}."
-    return f'<p id="where" class="note" data-nodes="{escape(json.dumps(given, separators=(",", ":")))}">{text}</p>'

@@ -1,13 +1,15 @@
-// On scene the searcher is not where the plan says: what was flown is marked, and the program plans the rest.
-(async function () {
+// On scene the searcher is not where the plan says: what was flown is marked, and the program plans the rest. It begins behind a search of
+// desk/shown.js and its picture, or null, which the page shows.
+const onscene = { async begin(own, drawn) {
   const part = document.getElementById("onscene");
-  if (part === null || carried.lacking()) {
+  if (document.getElementById("carried-scene") === null) {
+    part.hidden = false;
     return;
   }
   const [NO_LETTER, BEHIND, TOO_MANY] = [/[^0-9a-z]/gi, "\nend\n", 8];
   const [encoder, decoder] = [new TextEncoder(), new TextDecoder()];
-  // What desk/onscene.py says of the search: positions and places stand by their numbers.
-  const scene = JSON.parse(decoder.decode(await carried.unpacked("scene")));
+  // What desk/onscene.py says of the search, and what is drawn of it: positions and places stand by their numbers.
+  const scene = { ...JSON.parse(decoder.decode(await carried.unpacked("scene"))), ...shown.drawing(own, drawn), radio: own.radio };
   const [horizon, count] = [scene.path.length, scene.start.length];
   const positions = new Map(scene.at.map((places, position) => [String(places), position]));
   const at = (id) => document.getElementById(`onscene-${id}`);
@@ -221,4 +223,10 @@
   document.querySelectorAll("input[name=shares]").forEach((it) => it.addEventListener("change", () => { at("map").className = `scroll ${it.value}`; }));
   show();
   part.hidden = false;
-}());
+},
+
+// What is said where it can't begin.
+lacks(why) {
+  document.getElementById("onscene").hidden = false;
+  document.getElementById("onscene").replaceChildren(told.element("p", `Nothing can be planned here: ${why.message}.`, "note"));
+} };

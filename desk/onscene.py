@@ -3,7 +3,7 @@ import dataclasses
 import json
 from html import escape
 
-from desk import forms, limits, picture, radio, seats, writing
+from desk import forms, limits, seats, writing
 
 NOTE = (
     "On scene the searcher may not be where the plan says. Mark the looks that were flown, in their order; they found nothing. The program in this "
@@ -57,21 +57,9 @@ def texts(names):
     return [it.decode("ascii") for it in names]
 
 
-def drawing(search, drawn):
-    """What is needed to colour a map of the page anew, and to draw on it: the cells of each square by their names, which squares have parts
-    that are coloured, and how many side by side; and where places are. Nothing where there is no map."""
-    own = search.squares
-    squares = [[own.texts[it], [search.cells[cell] for cell in own.cells[it]]] for it in own.filled()]
-    if drawn is None:
-        return {"squares": squares, "parted": [], "finer": 1, "points": []}
-    parted = [own.texts[it] for it in drawn.parted]
-    points = [it and [round(at, 1) for at in drawn.point(it)] for it in drawn.layout.positions]
-    return {"squares": squares, "parted": parted, "finer": drawn.layout.finer, "points": points}
-
-
-def carried(search, drawn, told):
-    """What the script needs of the search, by the names of templates, as bytes: what is to be known and said; and the scenario in which it
-    plans, where that isn't the page's own. Nothing where the part isn't there."""
+def carried(search):
+    """What the script needs of the search, by the names of templates, as bytes: what is to be known; and the scenario in which it plans, where
+    that isn't the page's own. Nothing where the part isn't there."""
     of = base(search)
     if of is None:
         return {}
@@ -85,11 +73,9 @@ def carried(search, drawn, told):
         "onward": [min(of.sc.moves[it]) for it in range(len(of.sc.positions))],
         "path": of.path,
         "flown": of.flown,
-        "classes": picture.CLASSES,
         "gap": limits.MOST_GAP_RECORDS,
-        "radio": radio.data(search, told),
     }
-    scene = json.dumps(data | drawing(search, drawn)).encode("ascii")
+    scene = json.dumps(data).encode("ascii")
     return {"scene": scene} if of.text == search.text else {"scene": scene, "base": of.text}
 
 
@@ -119,10 +105,10 @@ def answer():
 
 
 def section(search):
-    """The part, hidden until the script finds that the browser can run the program; or why there is none."""
+    """The part, hidden until the script shows an accepted plan; or why there is none."""
     head = "<h2>Plan the rest from here</h2>"
     if base(search) is None:
-        return f'<section class="onscene">{head}<p class="note">{UNKNOWN}</p></section>\n'
+        return f'<section id="onscene" class="onscene" hidden>{head}<p class="note">{UNKNOWN}</p></section>\n'
     note = " ".join([NOTE, *[OF_TWO] * (search.seats.count > 1), JUMPED])
     most = f'<label>with at most <input type="number" id="onscene-most" value="{RECORDS}" min="1" max="{limits.MOST_NODES}"> records</label>'
     pressed = ' aria-pressed="false"'

@@ -1,13 +1,35 @@
-// Draws the map behind a look as picture.py does, and below it the scale and the north arrow of compass.py.
+// Draws the map behind a look, as SVG: squares, or the finer cells in them, coloured by where the target may be, the path with arrows, the
+// searcher's place, and below the squares a scale and an arrow to north.
 const picture = (function () {
-  const { SIDE, MARGIN, GAP, THIN_GAP, BOW, MOST_BOWS, MOST_LETTERS, MOST_RANGES, LETTERS_BESIDE, BELOW, ASIDE, NAME_SIZE, NAME_WIDTH, LETTER } = RULES.picture;
-  const [CLASSES, COMPASS] = [RULES.picture.CLASSES.map(BigInt), RULES.compass];
+  // The side of a square and the margin around the squares, in units of the picture; and the gap between squares, and between parts of one.
+  const [SIDE, MARGIN, GAP, THIN_GAP] = [100, 14, 2, 0.5];
+  // How much further a leg of the path bows to its right each time that it is gone again, in either direction.
+  const [BOW, MOST_BOWS] = [15, 3];
+  // The longest name that is drawn whole in a square, how many ranges of periods a square's label has, and how long a name may be so that
+  // these stand beside it, and not below.
+  const [MOST_LETTERS, MOST_RANGES, LETTERS_BESIDE] = [13, 3, 6];
+  // How much further down the periods of the second searcher's looks stand, and how far two searchers at one place stand from its middle.
+  const [BELOW, ASIDE] = [17, 17];
+  // The greatest and the widest writing of names, in units, and the width of a letter in parts of its height.
+  const [NAME_SIZE, NAME_WIDTH, LETTER] = [16, 86, 0.62];
+  // A class of colour begins at each of these shares, in thousandths of a percent; class 0 is exactly nothing.
+  const CLASSES = [0n, 1n, 100n, 300n, 1000n, 3000n, 10000n, 30000n];
+  // How high the strip below the squares is, and how far its drawings lie from the edges; how long the scale is at most, in sides of a square
+  // and as a share of the map; and from how many degrees between up and true north on it is said.
+  const COMPASS = { HEIGHT: 50, ASIDE: 20, MOST_SIDES: 2.5, MOST_SHARE: 0.6, TURNED: 0.5 };
   const { filled, escaped, number, fixed } = markup;
   const { cut, share } = told;
 
   // The class of colour of a share.
   function classOf(part, whole) {
     return told.colour(part, whole, CLASSES);
+  }
+
+  // What each class of colour says, in percent, the greatest first: its number and its text.
+  function classNames() {
+    const limits = CLASSES.map((it) => String(Number(it) / 1000));
+    const between = [6, 5, 4, 3, 2].map((at) => [at, `${limits[at]} to ${limits[at + 1]}`]);
+    return [[7, `${limits[7]} and more`], ...between, [1, `below ${limits[2]}`], [0, "0"]];
   }
 
   // A name, cut where it would be too long for a cell.
@@ -73,6 +95,8 @@ const picture = (function () {
       this.legs = this.allLegs();
       // How many squares the picture is wide.
       this.columns = this.size[0] / SIDE;
+      // The true bearing of up in the middle of the picture, in degrees.
+      this.up = search.earth ? search.earth.up : 0;
       this.below = places.metres ? this.compass() : "";
     }
 
@@ -126,7 +150,20 @@ const picture = (function () {
       const arrow = `M${at(east)} ${at(bottom - 20)}l9 36l-9 -8l-9 8z`;
       const low = at(bottom + 6);
       const scale = filled("scale", { bar, x: at(x + COMPASS.ASIDE + long + 10), y: low, length });
-      return scale + filled("north", { turn: "", arrow, x: at(east - 24), y: low });
+      const up = fixed(this.up, 1);
+      const turn = Number(up) === 0 ? "" : filled("turn", { by: fixed(-Number(up), 1), x: at(east), y: at(bottom) });
+      return scale + filled("north", { turn, arrow, x: at(east - 24), y: low });
+    }
+
+    // What is said of north.
+    north() {
+      const by = fixed(Math.abs(this.up), 1);
+      return Math.abs(this.up) < COMPASS.TURNED ? filled("north_is_up", {}) : filled("north_is_aside", { by, side: this.up > 0 ? "left" : "right" });
+    }
+
+    // The box of a mesh, which is told in metres, in units of the picture: its corner, its width and its height.
+    boxed([x, y, wide, high]) {
+      return [...this.point([x, y]), wide * this.scale, high * this.scale];
     }
 
     // The map of a frame.
@@ -135,7 +172,7 @@ const picture = (function () {
       const sums = this.own.sums(frame.left);
       const each = (drawing) => this.ways.map((_, who) => (who ? filled("layer", { kind: "second", drawn: drawing(who) }) : drawing(who))).join("");
       const [ways, signs] = [each((it) => this.path(it, frame)), each((it) => this.labels(it, frame) + this.searcher(it, frame))];
-      const drawn = [this.colours(frame, sums), this.borders(), this.outlines(frame), ways, this.texts(frame, sums), signs];
+      const drawn = [this.colours(frame, sums), this.borders(), this.outlines(frame), this.drifts(frame), ways, this.texts(frame, sums), signs];
       return filled("map", { label, box: [...this.low, ...this.size].map(number).join(" "), drawn: drawn.join("") + this.below });
     }
 
@@ -183,6 +220,15 @@ const picture = (function () {
     outlines(frame) {
       const seen = this.squares.filter((point, it) => point && this.own.cells[it].some((cell) => frame.covered.includes(cell)));
       return filled("layer", { kind: "covers", drawn: seen.map(([x, y]) => box(x - 45, y - 45)).join("") });
+    }
+
+    // A dot for each simulated drift that is in the area at the look, where there are some and places are metres.
+    drifts({ period }) {
+      if (!this.search.trial || period === 0 || !this.layout.metres) {
+        return "";
+      }
+      const dots = this.search.trial.drifts[period - 1].filter(Boolean).map((it) => this.point(it).map((each) => fixed(each, 0)));
+      return filled("drifts", { dots: dots.map(([x, y]) => `M${x} ${y}h0`).join("") });
     }
 
     // The way that is to come, the way before this period, and this period's move on top, with an arrow on each leg; and the start.
@@ -242,5 +288,5 @@ const picture = (function () {
     return filled(period ? "behind_look" : "before_looks", { period, who: seats.count === 1 ? "searcher is" : "searchers are", where });
   }
 
-  return { Picture, classOf, when };
+  return { Picture, CLASSES, classOf, classNames, leg, ranges, short, when };
 }());

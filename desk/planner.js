@@ -26,6 +26,7 @@
   // Takes away what is shown of another plan.
   function forget() {
     at("found").hidden = at("shown").hidden = true;
+    at("found").querySelector(".verdict").classList.remove("good");
     at("shown").replaceChildren();
     maps.begin();
   }
@@ -82,17 +83,13 @@
     const mapped = await ask(["map", "flown", ...reading.plan(plan).path], given.scenario);
     const report = word === "check" ? await ask(["report"], both) : null;
     const own = await shown.search(given.scenario, plan, mapped.out);
-    const { drawn, text } = shown.main(own);
-    const here = `Checked here, just now, by the proved program (${checked.seconds.toFixed(2)} s).`;
+    const here = markup.filled("checked_here", { seconds: checked.seconds.toFixed(2) });
+    shown.put(at("shown"), own, shown.main(own));
     at("name").textContent = given.name;
     at("chance").innerHTML = tables.chance(own);
     at("verdict").replaceChildren(told.element("span", tables.verdict(own)), " ", told.element("small", here));
     at("about").textContent = shown.about(own);
-    at("states").media = drawn !== null && drawn.parted.length ? "all" : "not all";
-    at("pair").media = own.seats.count > 1 ? "all" : "not all";
-    at("shown").className = drawn === null ? "" : "with-map";
-    at("shown").innerHTML = text;
-    Object.entries(drawn === null ? {} : shown.sizes(drawn)).forEach(([size, it]) => at("shown").style.setProperty(size, it));
+    at("found").querySelector(".verdict").classList.add("good");
     saved(given.name, [plan, report, both], word);
     at("found").hidden = at("shown").hidden = false;
     maps.begin();
@@ -200,4 +197,5 @@
   at("check").addEventListener("click", () => attempt("Checking", check));
   at("stop").addEventListener("click", stop);
   locked(false);
+  carried.tellSum();
 }());

@@ -15,9 +15,19 @@ const radio = (function () {
     return lines.map((it) => it.map(cell).join("  ").trimEnd());
   }
 
+  // A sentence as lines.
+  function wrapped(words, sentence) {
+    const lines = [];
+    for (const word of sentence.split(" ")) {
+      const longer = lines.length ? `${lines[lines.length - 1]} ${word}` : "";
+      lines.push(longer && longer.length <= words.width ? lines.pop() && longer : word);
+    }
+    return lines;
+  }
+
   // The names of a look's places, of which the last one says that the look is flown.
   function places(words, search, period) {
-    const names = search.path[period].map((it) => search.places[it]);
+    const names = search.names ? [...search.names[period]] : search.path[period].map((it) => search.places[it]);
     const last = names.pop();
     return [...names, period <= search.flown ? filled("brief_flown", { name: last }) : last];
   }
@@ -38,7 +48,7 @@ const radio = (function () {
   // The ways of a searcher from period to period.
   function legs(words, search, who) {
     const stops = search.path.map((it) => it[who]);
-    return stops.slice(1).map((to, at) => words.legs[stops[at]][to]);
+    return stops.slice(1).map((to, at) => words.legs[stops[at]]?.[to] ?? words.unknown);
   }
 
   // Where a searcher goes: no lines where no place is known.
@@ -47,7 +57,7 @@ const radio = (function () {
       return [];
     }
     const rows = legs(words, search, who).map(([course, way], at) => {
-      const middle = words.middles === null ? [] : [words.middles[search.path[at + 1][who]]];
+      const middle = words.middles === null ? [] : [words.middles[search.path[at + 1][who]] ?? words.unknown[0]];
       return [String(at + 1), ...begins(words, at + 1), places(words, search, at + 1)[who], ...middle, course, way];
     });
     return ["", words.going[who], ...table([words.ways, ...rows], words.texts)];
@@ -74,9 +84,23 @@ const radio = (function () {
     return [filled("brief_left", { period: path.length - 1 }), ...table([words.left, ...rows], [words.left[0]]), ...more];
   }
 
+  // What `text` wants of a search of desk/shown.js.
+  function of(own) {
+    const { name, value, weight, ceiling, seats, frames, squares, checksums } = own;
+    const sums = squares.sums(frames[frames.length - 1].left);
+    return {
+      ...{ name, sum: checksums.scenario, value, whole: weight, ceiling, flown: seats.flown },
+      trial: own.trial ? sentences.aboutTrial({ value, whole: weight }, own.trial) : [],
+      path: frames.map((it) => seats.sources[it.position]),
+      names: frames.map((it) => seats.names[it.position]),
+      found: frames.slice(1).map((it) => it.soFar),
+      squares: new Map(squares.filled.map((it) => [squares.names[it], sums[it]])),
+    };
+  }
+
   // The whole text of a search: the name and the checksum of its file's scenario; its value, whole and ceiling; how many looks are flown;
-  // by period, the start first, the numbers of its places, whose names `places` has; what is found behind each look; and the masses by
-  // square behind the last one.
+  // what a trial says, as sentences, if there was one; by period, the start first, the numbers of its places, whose names `places` has, or
+  // `names` by period; what is found behind each look; and the masses by square behind the last one.
   function text(words, search) {
     const [[name, slots], seats] = [words.chance, { count: words.going.length, flown: search.flown }];
     const lines = [
@@ -84,6 +108,7 @@ const radio = (function () {
       sentences.verdict(search, seats),
       words.checked,
       filled(name, { share: told.cut(search.value, search.whole), ...slots }),
+      ...(search.trial ?? []).flatMap((it) => wrapped(words, it)),
       ...words.about,
       ...sentences.aboutFlown({ ...search, found: search.found[search.flown - 1] }, search.flown, search.found.length),
       ...words.names,
@@ -101,5 +126,5 @@ const radio = (function () {
     return `${lines.join("\n")}\n`;
   }
 
-  return { text };
+  return { text, of };
 }());

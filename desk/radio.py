@@ -1,8 +1,10 @@
 """What a page carries so that it can write the brief of what is flown and planned in it (radio.js): the words, the times and the ways of
 desk.brief, as JSON can have them."""
-from desk import brief, steering, tables
+from desk import brief, sentences, steering
 from desk.markup import filled
 
+# The cells of a way of which nothing is known.
+NONE = ["-", ""]
 # How much of a way a page has to know: nothing, that it is none, that it is straight, or that it leads around land.
 UNKNOWN, STAY, STRAIGHT, AROUND = range(4)
 
@@ -32,9 +34,11 @@ def words(search):
     return {
         "checked": search.checked_by,
         "chance": brief.chance(search),
-        "names": tables.about_names(search),
+        "names": sentences.about_names(search),
         "left": brief.heads_of_left(search),
         "most": brief.MOST_LEFT,
+        "width": brief.WIDTH,
+        "unknown": [*NONE, UNKNOWN],
         "texts": brief.TEXTS,
     }
 

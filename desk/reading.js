@@ -6,20 +6,27 @@ const reading = (function () {
   const [MINUTE, HOUR, DAY] = [6000, 60, 24 * 60];
   // More bytes than the lines of a plan before its records have, of which the path is the longest: 32 names of 24 letters.
   const HEAD = 4096;
+  // How much of the comments at the front of a scenario a page repeats, in characters; and what of them it doesn't: places, and what leads there.
+  const MOST_COMMENT = 4000;
+  const [AT, EARTH] = [RULES.patterns.at, RULES.patterns.earth].map(markup.whole);
+  const { at_head: AT_HEAD, earth_head: EARTH_HEAD } = RULES.heads;
 
   // Bytes as letters, whatever each of them stands for.
   function letters(bytes) {
     return new TextDecoder("latin1").decode(bytes);
   }
 
+  // Each letter with its byte, and all that are blanks to Python.
+  const BYTES = new Map(Array.from(letters(Uint8Array.from({ length: 256 }, (_, it) => it)), (it, at) => [it, at]));
+  const BLANKS = " \t\r\n\f\v";
+
   // A line without the blanks around it. (A pattern for those at its end would take a time with the square of those within it.)
-  function stripped(line) {
-    const isBlank = (it) => it === " " || it === "\t" || it === "\r";
+  function stripped(line, blanks = " \t\r") {
     let [from, to] = [0, line.length];
-    while (from < to && isBlank(line[from])) {
+    while (from < to && blanks.includes(line[from])) {
       from += 1;
     }
-    while (from < to && isBlank(line[to - 1])) {
+    while (from < to && blanks.includes(line[to - 1])) {
       to -= 1;
     }
     return line.slice(from, to);
@@ -27,7 +34,7 @@ const reading = (function () {
 
   // The lines of a text, without the blanks around them.
   function lines(bytes) {
-    return letters(bytes).split("\n").map(stripped);
+    return letters(bytes).split("\n").map((it) => stripped(it));
   }
 
   // A row of cells with a part each, by the numbers of the cells.
@@ -96,16 +103,35 @@ const reading = (function () {
     return [Math.floor(seconds / 3600), Math.floor(seconds / 60) % 60, ...(seconds % 60 ? [seconds % 60] : [])].map(two).join(":");
   }
 
+  // When periods of so many minutes begin, the first at a time of day; null where these are none.
+  function timesFrom(minutes, text) {
+    const [length, begins] = [Math.round(Number(minutes) * 100) * (MINUTE / 100), moment(text)];
+    if (begins === null || length <= 0 || length > DAY * MINUTE) {
+      return null;
+    }
+    return { about: about(begins), at: (period) => since(begins.at + (period - 1) * length) };
+  }
+
   // When periods begin, by what comments say; null where none does. The last such comment counts.
   function times(all) {
     const told = all.filter((it) => it.startsWith("#")).map((it) => stripped(it.slice(1)).match(TIMES)).reverse();
-    for (const [, minutes, text] of told.filter(Boolean)) {
-      const [length, begins] = [Math.round(Number(minutes) * 100) * (MINUTE / 100), moment(text)];
-      if (begins !== null && length > 0 && length <= DAY * MINUTE) {
-        return { about: about(begins), at: (period) => since(begins.at + (period - 1) * length) };
-      }
-    }
-    return null;
+    return told.filter(Boolean).map(([, minutes, text]) => timesFrom(minutes, text)).find(Boolean) || null;
+  }
+
+  // What a comment says, without what leads to places; nothing where it says where a place is.
+  function words(line) {
+    const said = stripped(line.replace(/^#+/, ""), BLANKS);
+    const plain = stripped(said.endsWith(AT_HEAD) ? said.slice(0, -AT_HEAD.length) : said, BLANKS);
+    return plain === EARTH_HEAD || AT.test(line) || EARTH.test(line) ? "" : plain;
+  }
+
+  // What the comments at the front of a scenario say, as text that can be shown: of its lines.
+  function comment(all) {
+    const ends = all.findIndex((it) => it !== "" && !it.startsWith("#"));
+    const said = all.slice(0, ends < 0 ? all.length : ends).map(words).filter(Boolean).join("\n").slice(0, 4 * MOST_COMMENT);
+    const text = new TextDecoder().decode(Uint8Array.from(said, (it) => BYTES.get(it)));
+    const clean = Array.from(text, (it) => (it === "\n" || it === " " || !/[\p{C}\p{Z}]/u.test(it) ? it : "\ufffd"));
+    return clean.length <= MOST_COMMENT ? clean.join("") : `${clean.slice(0, MOST_COMMENT).join("")} …`;
   }
 
   // The date of the first period and the zone of all times, where one of them is known.
@@ -137,5 +163,5 @@ const reading = (function () {
     return { version: (said.plan || said.gap)[0], path: said.path, value, weight, ceiling, records: Number(said.nodes[0]) };
   }
 
-  return { lines, scenario, times, parts, plan };
+  return { lines, scenario, times, timesFrom, comment, parts, plan };
 }());

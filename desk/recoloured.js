@@ -70,7 +70,7 @@ const recoloured = (function () {
     }
     const copy = drawn.cloneNode(true);
     copy.querySelectorAll(OWN).forEach((it) => it.remove());
-    colour(copy, scene, left, squares(scene.squares, left), { whole, missed: told.sum(left), limits: scene.classes.map(BigInt) });
+    colour(copy, scene, left, squares(scene.squares, left), { whole, missed: told.sum(left), limits: scene.classes });
     copy.setAttribute("aria-label", `Map after look ${flown}`);
     const ways = scene.start.map((_, who) => path.map((it) => scene.points[it[who]]));
     const texts = copy.querySelector(".texts");

@@ -2,7 +2,7 @@
 import itertools
 import xml.etree.ElementTree as xml
 
-from desk import brief, geojson, meridian, steering, tables
+from desk import brief, geojson, meridian, sentences, steering
 
 GPX, KML = "http://www.topografix.com/GPX/1/1", "http://www.opengis.net/kml/2.2"
 # Degrees are written with so many digits: one of the last is a centimetre.
@@ -42,7 +42,7 @@ def title(chart):
 def about(chart):
     """What is said of the path as a whole."""
     search = chart.search
-    told = [f"Chance to find them: {search.report.percent} %.", tables.verdict(search), *(chart.told.times.about() if chart.told.times else [])]
+    told = [f"Chance to find them: {search.report.percent} %.", sentences.verdict(search), *(chart.told.times.about() if chart.told.times else [])]
     return " ".join([*told, *steering.searching(chart.told, search.sc.horizon)])
 
 

@@ -1,4 +1,4 @@
-// What is said of an accepted plan, as tables.py says it, in all pages in which the program runs.
+// What is said of an accepted plan, as sentences.py says it for a brief, in all pages in which the program runs.
 const sentences = (function () {
   const { filled } = markup;
 
@@ -32,5 +32,13 @@ const sentences = (function () {
     return [head, missed === 0n ? filled("flown_certain", { these }) : filled("flown_rest", { these, share: told.cut(value - found, missed) })];
   }
 
-  return { verdict, aboutFlown };
+  // What is said of a trial of the plan: what it finds of so many simulated drifts, with its standard error, beside what the plan says.
+  function aboutTrial({ value, whole }, { count, finds, error, isOff }) {
+    const digits = error >= 0.0005 ? 1 : 2;
+    const [says, found, by] = [Number(value) / Number(whole), finds, error].map((it) => markup.fixed(it * 100, digits));
+    const said = filled("trial_both", { says, finds: found, error: by, count: String(count).replace(/\B(?=(\d{3})+$)/g, ",") });
+    return [said, ...(isOff ? [filled("trial_is_off", {})] : [])];
+  }
+
+  return { verdict, aboutFlown, aboutTrial };
 }());

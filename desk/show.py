@@ -1,5 +1,5 @@
 """show SCENARIO [PLAN] [--of SCENARIO] [--trial FILE] [--from HH:MM --minutes N]: writes a page that shows an accepted plan."""
-from desk import accepted, carried, clock, comments, compass, layout, page, picture, running, tried
+from desk import accepted, carried, clock, comments, page, running, tried
 
 WORDS = clock.words_of("show", "writes a page for a browser: the map, the path, and the chances period by period")
 
@@ -8,12 +8,7 @@ def page_of(given):
     """The page of what the words say, and what the program said on standard error. Raises accepted.Refused."""
     search = tried.with_trial(accepted.mapped(accepted.load(given.files, given.of)), given.trial)
     told, said = comments.read(search, given.times)
-    try:
-        drawn, why = picture.Picture(search, layout.layout(search.seats.of, search.told_by)), None
-        compass.add(drawn, told.frame)
-    except layout.NoPlaces as lacking:
-        drawn, why = None, str(lacking)
-    return page.document(search, drawn, why, told, carried.module(search)), running.noted(search.note, "show", said)
+    return page.document(search, told, given.times, carried.module(search)), running.noted(search.note, "show", said)
 
 
 def main(words):

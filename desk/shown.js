@@ -1,6 +1,10 @@
-// What a page of `show` shows of a plan, made in the browser: page.py's main part, of texts that the program wrote.
+// What a page shows of an accepted plan, made of texts that the program wrote and accepted: the head, and all below it.
 const shown = (function () {
-  const { MOST_BESIDE, MOST_LIKELIEST, LEAST_CELL } = RULES.page;
+  // The least width of a square on a screen, in pixels: below it a map can be moved sideways; and how many columns a map has that doesn't
+  // have the whole width of the page.
+  const [LEAST_CELL, MOST_BESIDE] = [36, 15];
+  // How many of the likeliest squares the text above a map names.
+  const MOST_LIKELIEST = 3;
   const { filled, escaped } = markup;
 
   // The frames of a path: before the first look, and behind each, with what stands there by the map, in the order of the cells.
@@ -16,23 +20,34 @@ const shown = (function () {
     return made;
   }
 
+  // Throws an Error where a map isn't that of the path of a plan, or doesn't have its numbers.
+  function agree({ path, value, weight }, looks) {
+    const missed = looks.length ? told.sum(looks[looks.length - 1].left) : null;
+    if (looks.map((it) => it.position).join() !== path.join() || missed !== weight - value) {
+      throw new Error("the masses of the map aren't those of the plan");
+    }
+  }
+
   // The SHA-256 of texts by their names; none where the browser makes none.
   async function checksums(texts) {
     if (!globalThis.crypto?.subtle) {
       return {};
     }
-    const sum = async (text) => [...new Uint8Array(await crypto.subtle.digest("SHA-256", text))].map((it) => it.toString(16).padStart(2, "0")).join("");
-    const pairs = Object.entries(texts).map(async ([name, text]) => [name, await sum(text)]);
+    const pairs = Object.entries(texts).map(async ([name, text]) => [name, await told.sha256(text)]);
     return Object.fromEntries(await Promise.all(pairs));
   }
 
-  // A scenario, an accepted plan or gap plan of it, and what `map` says of its path (bytes, bytes, text), as one.
-  async function search(scenario, plan, map) {
-    const lines = reading.lines(scenario);
-    const [sc, head] = [reading.scenario(lines), reading.plan(plan)];
-    const who = seats.seats(sc);
-    const own = { ...head, sc, lines, seats: who, squares: layout.squares(who.of), clock: reading.times(lines), frames: frames(sc, head, told.looks(map)) };
-    return { ...own, checksums: await checksums({ scenario, plan }) };
+  // A scenario, an accepted plan or gap plan of it, and what `map` says of its path (bytes, bytes, text), as one; with what else is known:
+  // `of`, the text of the scenario that it was made of, and the `name` of its file, the minutes of its periods and the begin of the first one
+  // (`times`), a `trial` of the plan, where on the `earth` its places are, and the words for the `radio`, as page.py has them.
+  async function search(scenario, plan, map, { of, name, times, trial, earth, radio: words } = {}) {
+    const [sc, head, looks] = [reading.scenario(reading.lines(scenario)), reading.plan(plan), told.looks(map)];
+    agree(head, looks);
+    const lines = reading.lines(of || scenario);
+    const who = seats.seats(sc, of ? reading.scenario(lines) : null);
+    const clock = times ? reading.timesFrom(...times) : reading.times(lines);
+    const own = { ...head, sc, lines, seats: who, squares: layout.squares(who.of), clock, frames: frames(sc, head, looks), name, trial, earth };
+    return { ...own, radio: words, checksums: await checksums({ scenario, plan }) };
   }
 
   // The likeliest squares after a look, as shares of all and of what is left.
@@ -58,27 +73,58 @@ const shown = (function () {
     return filled("figure", { period, head: head[0].toUpperCase() + head.slice(1), time, said: found + likeliest(own, frame), map: drawn.svg(frame) });
   }
 
+  // What the colours say, of squares or of parts of squares.
+  function key(isParted) {
+    const rows = picture.classNames().map(([at, text]) => filled("key_row", { at, text }));
+    return filled("key", { head: isParted ? filled("key_head", {}) : "", rows: rows.join("") });
+  }
+
+  // What the signs of the map of so many searchers say.
+  function signs(count) {
+    const way = filled("leg", picture.leg([-26, 0], [26, 0], 0));
+    const who = count === 1 ? ["searcher, in this period"] : ["first searcher, in this period", "second searcher"];
+    const shapes = [filled("sign_disc", {}), filled("sign_square", {})];
+    const searchers = who.map((text, at) => [filled("sign_searcher", { shape: shapes[at] }), text]);
+    const moves = [["now", "this move"], ["gone", "moves before"], ["coming", "moves to come"]].map(([kind, text]) => [filled("layer", { kind, drawn: way }), text]);
+    const others = [["sign_covers", "seen by this look"], ["sign_start", "start"], ["sign_visits", "periods of looks from there"]].map(([name, text]) => [filled(name, {}), text]);
+    return filled("signs", { signs: [...searchers, ...moves, ...others].map(([drawing, text]) => filled("sign", { drawing, text })).join("") });
+  }
+
   // Where north is, how wide squares and their parts are, where that is known, and what the colour of a part says.
   function width(drawn) {
     const { metres, side, finer } = drawn.layout;
     if (!metres) {
       return "";
     }
-    const [north, part] = [filled("north_is_up", {}), side / finer];
-    const slots = { north, side: markup.general(side), part: markup.fixed(part, part >= 100 ? 0 : 1) };
+    const part = side / finer;
+    const slots = { north: drawn.north(), side: markup.general(side), part: markup.fixed(part, part >= 100 ? 0 : 1) };
     return filled(drawn.parted.length ? "width_of_parts" : "width", slots);
   }
 
-  // The maps with all that belongs to them.
+  // The choice of whether simulated drifts are drawn, where there are some.
+  function driftsBox({ trial }) {
+    return trial ? filled("drifts_box", { count: markup.plural(trial.drifts[0].length, "simulated drift") }) : "";
+  }
+
+  // The line that says where on the earth the pointer is, where that is known.
+  function where({ earth }, drawn) {
+    if (!earth || !drawn.layout.metres) {
+      return "";
+    }
+    const { count, latitudes, longitudes, corner } = earth;
+    return filled("where", { corner: escaped(corner), nodes: escaped(JSON.stringify({ box: drawn.boxed(earth.box), count, latitudes, longitudes })) });
+  }
+
+  // The maps with all that belongs to them: one for each look, and one before the first. One is shown at a time; print has all.
   function maps(own, drawn) {
     const off = drawn.notDrawn();
     const lacking = off.length ? filled("not_drawn", { names: escaped(off.join(", ")) }) : "";
     return filled("maps", {
-      controls: filled("controls", { count: own.sc.horizon, drifts: "" }),
+      controls: filled("controls", { count: own.sc.horizon, drifts: driftsBox(own) }),
       figures: own.frames.map((it) => figure(own, drawn, it)).join(""),
-      key: RULES.keys[drawn.parted.length ? "parts" : "squares"],
-      where: "",
-      signs: RULES.signs[own.seats.count],
+      key: key(drawn.parted.length > 0),
+      where: where(own, drawn),
+      signs: signs(own.seats.count),
       note: filled("map_note", { width: width(drawn), lacking }),
     });
   }
@@ -108,9 +154,26 @@ const shown = (function () {
     return { drawn, text: first + tables.allCells(own, false, drawn.layout.finer) + tables.numbers(own) };
   }
 
-  // What is said of a plan beside its verdict: when its looks are, which are flown, and how positions are named.
+  // What is said of a plan beside its verdict, as sentences: when its looks are, what a trial says, which looks are flown, and how positions
+  // are named.
+  function sentencesOf(own) {
+    const trial = own.trial ? sentences.aboutTrial({ value: own.value, whole: own.weight }, own.trial) : [];
+    return [...(own.clock && own.clock.about ? [own.clock.about] : []), ...trial, ...tables.aboutFlown(own), ...tables.aboutNames(own)];
+  }
+
+  // The same as one text.
   function about(own) {
-    return [...(own.clock && own.clock.about ? [own.clock.about] : []), ...tables.aboutFlown(own), ...tables.aboutNames(own)].join(" ");
+    return sentencesOf(own).join(" ");
+  }
+
+  // The head of an accepted plan: its chance, what no other is better than, and by whom it was checked; and what stands below that.
+  function head(own, by) {
+    const said = reading.comment(own.lines);
+    return {
+      verdict: filled("verdict", { chance: tables.chance(own), said: escaped(tables.verdict(own)), by: escaped(by) }),
+      notes: filled("notes", { up: own.ceiling === null ? "" : filled("notes_up", {}) })
+        + (about(own) ? filled("about", { text: escaped(about(own)) }) : "") + (said ? filled("own", { text: escaped(said) }) : ""),
+    };
   }
 
   // What of the style depends on a picture: the least width of a map, how large names are written, how large parts are.
@@ -119,5 +182,27 @@ const shown = (function () {
     return { "--least-width": `${Math.ceil(drawn.columns * LEAST_CELL)}px`, "--name-size": `${markup.fixed(drawn.nameSize(), 1)}px`, "--part-side": `${part}px` };
   }
 
-  return { search, main, about, sizes };
+  // Puts what `main` made of a search into an element of the page, with the styles that belong to it.
+  function put(place, own, { drawn, text }) {
+    const media = { states: drawn !== null && drawn.parted.length > 0, pair: own.seats.count > 1 };
+    Object.entries(media).forEach(([name, isWanted]) => { document.getElementById(`style-${name}`).media = isWanted ? "all" : "not all"; });
+    place.className = drawn === null ? "shown" : "shown with-map";
+    place.innerHTML = text;
+    Object.entries(drawn === null ? {} : sizes(drawn)).forEach(([name, size]) => place.style.setProperty(name, size));
+  }
+
+  // What is needed to colour a map of the page anew, and to draw on it: the cells of each square by their names, which squares have parts that
+  // are coloured, and how many side by side; the limits of the colours; and where places are. No place is known where there is no map.
+  function drawing({ squares, sc }, drawn) {
+    const named = squares.filled.map((it) => [squares.names[it], squares.cells[it].map((cell) => sc.names[cell])]);
+    const point = (it) => it && drawn.point(it).map((at) => Number(markup.fixed(at, 1)));
+    const map = drawn === null ? { parted: [], finer: 1, points: [] } : {
+      parted: drawn.parted.map((it) => squares.names[it]),
+      finer: drawn.layout.finer,
+      points: drawn.layout.positions.map(point),
+    };
+    return { squares: named, classes: picture.CLASSES, ...map };
+  }
+
+  return { search, main, about, head, put, drawing };
 }());

@@ -1,6 +1,7 @@
-// The tables of a page as tables.py has them: periods, what is left at the end, all squares behind all looks, and the numbers behind it.
+// The tables of a page: periods, what is left at the end, all squares behind all looks, and the numbers behind it.
 const tables = (function () {
-  const { MOST_LEFT, MOST_COLUMNS } = RULES.tables;
+  // How many squares the table of what is left names, and how many looks a table of all squares has side by side, so that it fits on paper.
+  const [MOST_LEFT, MOST_COLUMNS] = [10, 11];
   const { filled, escaped, plural } = markup;
   const { cut, share } = told;
   const { classOf } = picture;

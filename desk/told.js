@@ -104,6 +104,12 @@ const told = (function () {
     });
   }
 
+  // The SHA-256 of bytes, in hexadecimal.
+  async function sha256(bytes) {
+    const sum = new Uint8Array(await crypto.subtle.digest("SHA-256", bytes));
+    return Array.from(sum, (it) => it.toString(16).padStart(2, "0")).join("");
+  }
+
   // Lets a link save bytes under a name.
   function save(link, bytes, name) {
     if (link.href) {
@@ -113,5 +119,5 @@ const told = (function () {
     link.download = name;
   }
 
-  return { element, cut, up, share, percent, colour, looks, chance, sum, rows, greatest, likeliest, legs, save };
+  return { element, cut, up, share, percent, colour, looks, chance, sum, rows, greatest, likeliest, legs, sha256, save };
 }());

@@ -5,11 +5,14 @@ import math
 
 from desk import accepted, limits, percent
 from desk.accepted import Refused
+from desk.markup import filled
 from desk.status import Status
 
 # The exit status (docs/FORMATS.md), the longest text of a trial that is read, in bytes, and the most drifts of it.
 LONGEST = 16_000_000
 MOST_DRIFTS = 500
+# Metres of drifts have so many digits in a page.
+DIGITS = 2
 
 
 class NoTrial(Exception):
@@ -32,8 +35,12 @@ class Tried:
         """What is said of it: both numbers, and whether they fit."""
         digits = 1 if self.error >= 0.0005 else 2
         says, finds, error = (percent.near(it, digits) for it in (self.says, self.finds, self.error))
-        told = [f"{says} % by the plan's own sums; {finds} ± {error} % of {self.count:,} simulated drifts."]
-        return told + ["So the scenario is no good image of these drifts: osp trial says why."] * self.is_off
+        return [filled("trial_both", says=says, finds=finds, error=error, count=f"{self.count:,}"), *[filled("trial_is_off")] * self.is_off]
+
+    def carried(self):
+        """What a page carries of it, which knows itself what the plan says."""
+        drifts = [[it and [round(at, DIGITS) for at in it] for it in look] for look in self.drifts]
+        return {"count": self.count, "finds": self.finds, "error": self.error, "isOff": self.is_off, "drifts": drifts}
 
 
 def share(value):

@@ -1,15 +1,7 @@
-"use strict";
 // Says where on the earth the pointer is over a map: between the nodes of a mesh, whose places stand in the page.
-(function () {
-  const said = document.getElementById("where");
-  if (!said) {
-    return;
-  }
-  const { box, count, latitudes, longitudes } = JSON.parse(said.dataset.nodes);
-  const before = said.textContent;
-
+const where = (function () {
   // The value of a share along each axis between the values of the nodes around it.
-  function between(values, across, down) {
+  function between(values, count, across, down) {
     const column = Math.min(Math.floor(across * count), count - 1);
     const row = Math.min(Math.floor(down * count), count - 1);
     const east = across * count - column;
@@ -27,20 +19,33 @@
     return degrees + "\u00b0" + minutes + "'" + sides[value < 0 && thousandths > 0 ? 1 : 0];
   }
 
-  function show(event) {
-    const point = new DOMPoint(event.clientX, event.clientY).matrixTransform(event.currentTarget.getScreenCTM().inverse());
-    const across = (point.x - box[0]) / box[2];
-    const down = (point.y - box[1]) / box[3];
+  // The place of a point of the map, as text; null outside of the mesh.
+  function placeOf({ box, count, latitudes, longitudes }, { x, y }) {
+    const [across, down] = [(x - box[0]) / box[2], (y - box[1]) / box[3]];
     if (Math.min(across, down) < 0 || Math.max(across, down) > 1) {
-      return;
+      return null;
     }
-    const longitude = between(longitudes, across, down);
+    const longitude = between(longitudes, count, across, down);
     const turned = longitude - 360 * Math.round(longitude / 360);
-    said.textContent = angle(between(latitudes, across, down), 2, "NS") + " " + angle(turned, 3, "EW");
+    return `${angle(between(latitudes, count, across, down), 2, "NS")} ${angle(turned, 3, "EW")}`;
   }
 
-  document.querySelectorAll(".figures .map").forEach((map) => {
-    map.addEventListener("pointermove", show);
-    map.addEventListener("pointerleave", () => { said.textContent = before; });
-  });
+  // Takes the maps and the line that stand in the page now, if there is one.
+  function begin() {
+    const said = document.getElementById("where");
+    if (!said) {
+      return;
+    }
+    const [nodes, before] = [JSON.parse(said.dataset.nodes), said.textContent];
+    const show = (event) => {
+      const point = new DOMPoint(event.clientX, event.clientY).matrixTransform(event.currentTarget.getScreenCTM().inverse());
+      said.textContent = placeOf(nodes, point) ?? said.textContent;
+    };
+    document.querySelectorAll(".figures .map").forEach((map) => {
+      map.addEventListener("pointermove", show);
+      map.addEventListener("pointerleave", () => { said.textContent = before; });
+    });
+  }
+
+  return { begin };
 }());

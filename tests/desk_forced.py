@@ -6,7 +6,7 @@ import random
 import subprocess
 import unittest
 
-from desk import carried, derived, forms, planner, writing
+from desk import carried, derived, forms, page, writing
 from tests import made, pages, web
 from tests.desk_derived import FORCED, small
 from tests.made import read
@@ -89,7 +89,7 @@ def walk(sc, rng, count):
 class Forced(pages.Room):
     def made(self, cases):
         """What the script makes of scenarios (bytes) with flown positions."""
-        script = self.write("script.js", f"{planner.rules()}{''.join(map(carried.asset, ('markup.js', 'reading.js', 'forced.js')))}".encode())
+        script = self.write("script.js", f"{page.rules()}{''.join(map(carried.asset, ('markup.js', 'reading.js', 'forced.js')))}".encode())
         rows = [json.dumps([base64.b64encode(text).decode("ascii"), flown]) for text, flown in cases]
         words = [web.NODE, f"{pages.TOP}/tests/forced_in_node.mjs", script]
         done = subprocess.run(words, input="\n".join(rows), stdout=subprocess.PIPE, text=True, check=True)
