@@ -14,8 +14,13 @@ const marks = (function () {
     }
   }
 
+  // Whether nothing is lost when the page is left.
+  function areSafe() {
+    return isKept || count === 0;
+  }
+
   function warn(event) {
-    if (!isKept && count > 0) {
+    if (!areSafe()) {
       event.preventDefault();
       event.returnValue = true;
     }
@@ -44,5 +49,5 @@ const marks = (function () {
     }
   }
 
-  return { begin, keep };
+  return { begin, keep, areSafe };
 }());
