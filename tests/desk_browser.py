@@ -13,11 +13,11 @@ import tempfile
 import unittest
 import unittest.mock
 
-from desk import accepted, brief, earth, program, show
-from tests import finer
+from desk import accepted, brief, carried, earth, program, show
+from tests import carrying, finer, web
 from tests.made import GRID, paired, with_plan
 from tests.packaged import on_earth
-from tests.pages import EXAMPLES, PLACES, PROGRAM, TOP, Room, example, read, tree
+from tests.pages import EXAMPLES, IS_BUILT, PLACES, PROGRAM, TOP, Drawing, Room, example, read
 
 # The Python that has Debian's python3-selenium, the script for it, and its status where there is no browser.
 PYTHON, SCRIPT, LACKING = "/usr/bin/python3", os.path.join(TOP, "tests", "in_browser.py"), 77
@@ -36,8 +36,8 @@ def page_file(room, name, file_name=None, change=lambda it: it):
     return room.write(f"{name}-{len(os.listdir(room.room))}.html", out.encode()), out
 
 
-class Hostile(Room):
-    """Texts that nobody writes by mistake. The plan is accepted all the same where only comments and file names are hostile."""
+class Hostile(Drawing):
+    """Texts that nobody writes by mistake. The plan is accepted all the same where only comments and file names are hostile, and is shown."""
 
     def both(self, words, status):
         """What both helpers write and say, which end with this status."""
@@ -57,6 +57,7 @@ class Hostile(Room):
             (told, _), (text, _) = self.both([self.write("s", more + scenario), self.write("p", plan)], 0)
             self.assertLess(len(told), 400_000)
             self.assertLess(len(text), 2_000)
+            self.assertEqual(self.drawn(told)[0].one(class_="chance").one("strong").text(), re.search(r"Chance to find them: (\S+) %", text)[1] + "\N{NO-BREAK SPACE}%")
         with unittest.mock.patch.object(accepted, "MOST_INPUT", 1_000_000):
             self.both(["/dev/zero", self.write("p", plan)], 9)
             self.both([self.write("s", scenario), "/dev/zero"], 9)
@@ -67,7 +68,7 @@ class Hostile(Room):
         bad = bytes(range(1, 256)).replace(b"\n", b"")
         files = [self.write(b"caf\xe9 \xff\x1b[2J.scenario", b"# " + bad + b"\n" + scenario), self.write("p", plan)]
         (told, _), (text, _) = self.both(files, 0)
-        for it in (told, text):
+        for it in (told, text, self.drawn(told)[0].text()):
             self.assertIn("caf\ufffd \ufffd\ufffd[2J.scenario", it)
             self.assertEqual(set(re.findall(r"[\x00-\x09\x0b-\x1f\x7f-\x9f\ud800-\udfff]", it)), set())
         self.both([self.write("s", bad + scenario), self.write("p", plan)], 3)
@@ -76,8 +77,11 @@ class Hostile(Room):
     def test_deep(self):
         scenario, plan = example("small-lake")
         deep = b"# " + b"<div>" * 100_000 + b"[" * 100_000 + b"\n# at r0c0 " + b"(" * 100_000 + b"\n"
-        for out, _ in self.both([self.write("s", deep + scenario), self.write("p", plan)], 0):
-            self.assertNotIn("<div><div>", out)
+        (out, _), (text, _) = self.both([self.write("s", deep + scenario), self.write("p", plan)], 0)
+        (its,) = self.opened(out)
+        for it in (out, text, *(it.get("html", "") for it in its.values())):
+            self.assertNotIn("<div><div>", it)
+        self.assertIn("&lt;div&gt;&lt;div&gt;", its["notes"]["html"])
         self.both([self.write("s", scenario), self.write("p", plan.split(b"nodes")[0] + b"nodes 1048576\n" + b"B\n" * 200_000)], 4)
 
     def test_wrong_types(self):
@@ -99,16 +103,16 @@ class Hostile(Room):
         for place in (b"NaN NaN", b"1e999 1", b"inf -inf", b"0x10 1", "١ ٢".encode(), b"99999999999 1", b"1", b"1 2 3", b"- 1", b"1. 2"):
             text = b"".join(b"# at r%dc%d %s\n" % (row, column, place) for row in range(9) for column in range(9)) + scenario
             (told, _), _ = self.both([self.write("s", text), right[1]], 0)
-            self.assertNotIn("North is up", told, place)
+            self.assertNotIn("North is up", self.drawn(told)[0].text(), place)
 
     def test_markup(self):
         """All that is hostile comes out as text, and the page has the elements that it has without it."""
         plain, made = page_file(self, "kayaker"), page_file(self, "kayaker", "<svg onload=owned=4>&amp;\"'`.scenario", lambda it: COMMENTS + it)
-        told, same = tree(made[1]), tree(plain[1])
+        told, same = self.drawn(made[1], plain[1])
         self.assertEqual([it.tag for it in told.all()], [it.tag for it in same.all()])
         self.assertEqual(told.one("h1").one("bdi").text(), "<svg onload=owned=4>&amp;\"'`.scenario")
         self.assertEqual(told.one("head").one("title").text(), "Search plan <svg onload=owned=4>&amp;\"'`.scenario")
-        self.assertIn(MARKUP, told.one("pre").text())
+        self.assertIn(MARKUP, told.one("header").one("pre").text())
         files = [os.path.join(self.room, it) for it in ("<svg onload=owned=4>&amp;\"'`.scenario", "kayaker.plan")]
         status, text, _ = self.run_helper(brief.main, files)
         self.assertEqual(status, 0)
@@ -168,8 +172,13 @@ class Browser(unittest.TestCase):
             raise unittest.SkipTest(f"there is no {PYTHON}")
         cls.folder = os.environ.get("DESK_PICTURES") or tempfile.mkdtemp()
         os.makedirs(cls.folder, exist_ok=True)
+        if web.lacking() or not IS_BUILT:
+            raise unittest.SkipTest(web.lacking() or "no program is built: its pages carry none")
         room = Room()
         room.setUp()
+        patch = unittest.mock.patch.object(carried, "PLACES", carrying.PLACES)
+        patch.start()
+        room.addCleanup(patch.stop)
         try:
             files = pages_for(room)
             words = [PYTHON, SCRIPT, cls.folder, *files.values()]
@@ -297,10 +306,11 @@ class Browser(unittest.TestCase):
     def test_no_request_and_nothing_on_the_console(self):
         for name in ("grid", "table", "swath", "pair", "finer", "tried", "earth", "hostile"):
             seen = self.seen[name]
-            self.assertEqual({it.split("/")[0] for it in seen["asked"]}, {"file:"}, name)
-            self.assertEqual(len(set(seen["asked"])), 1, name)
+            # (The worker is text of the page itself.)
+            asked = {it for it in seen["asked"] if not it.startswith("blob:null/")}
+            self.assertEqual([it.split("/")[0] for it in asked], ["file:"], name)
             self.assertEqual(seen["console"], [], name)
-            self.assertEqual((seen["made"], seen["owned"]), (["SCRIPT"], None), name)
+            self.assertEqual((seen["made"], seen["owned"]), (["A", "SCRIPT", "SCRIPT"], None), name)
 
     def test_a_page_that_escapes_nothing_would_be_seen(self):
         seen = self.seen["broken"]

@@ -6,9 +6,9 @@ from unittest import mock
 
 from bench import one_worker
 from bench.one_worker import gap_text
-from desk import accepted, brief, following, forms, paths, show, tables, verdict
+from desk import accepted, brief, following, forms, paths, sentences, show, verdict
 from tests.made import ROW
-from tests.pages import EXAMPLES, Room, Tree, example, read as contents
+from tests.pages import EXAMPLES, Drawing, Room, example, read as contents
 
 CELLS, LONGER = example("two-cells")[0], example("waiting-longer")[0]
 # A look at c finds for sure: by c b c the edge bound counts the target twice, since no two looks at c follow each other.
@@ -265,22 +265,8 @@ class Helpers(Room):
         rows = (6, "Accepted: no path finds more."), (7, "Accepted: no path finds more than 87.500 %."), (8, nothing), (9, nothing), (10**30, nothing)
         for ceiling, told in rows:
             with self.subTest(ceiling=ceiling):
-                found = tables.verdict(dataclasses.replace(search, ceiling=ceiling))
+                found = sentences.verdict(dataclasses.replace(search, ceiling=ceiling))
                 self.assertEqual(found, told)
-
-    def test_a_page_has_the_ceiling_and_the_masses_of_the_map(self):
-        nothing, most = "Accepted, but nothing is shown yet: the ceiling is 100 %.", "Accepted: no path finds more than 87.500 %."
-        for version, text, ceiling, told in ((1, BELOW, 8, nothing), (2, EDGES_BELOW, 7, most)):
-            status, out, err = self.run_helper(show.main, self.given(LONGER, text))
-            self.assertEqual(status, 0, err)
-            page = Tree(out).open[0]
-            self.assertTrue(page.one(class_="accepted").text().startswith(told))
-            self.assertIn("cut off after three digits, that of the ceiling is rounded up.", page.one("header").text())
-            numbers = page.one("section", class_="numbers").text()
-            records = f"Gap plantext of version {version}, 8 records: they show that no path finds more than the ceiling"
-            for part in ("Chance6 of 8", f"Ceiling{ceiling} of 8: rounded up in percent", records):
-                self.assertIn(part, numbers)
-            self.assertNotIn("own sums", numbers)
 
     def test_next_goes_on_behind_it(self):
         status, out, err = self.run_helper(following.main, [*self.given(LONGER, WAITS), "--flown", "2"])
@@ -293,6 +279,20 @@ class Helpers(Room):
             status, out, err = self.run_helper(helper.main, self.given(LONGER, WAITS.replace(b"ceiling 8", b"ceiling 7")))
             self.assertEqual((status, out), (1, ""), err)
             self.assertIn("the plan isn't accepted: rejected 4 CeilingWrong", err)
+
+
+class Pages(Drawing):
+    def test_a_page_has_the_ceiling_and_the_masses_of_the_map(self):
+        nothing, most = "Accepted, but nothing is shown yet: the ceiling is 100 %.", "Accepted: no path finds more than 87.500 %."
+        for version, text, ceiling, told in ((1, BELOW, 8, nothing), (2, EDGES_BELOW, 7, most)):
+            page = self.shown(self.write("s", LONGER), self.write("p", text))
+            self.assertTrue(page.one(class_="accepted").text().startswith(told))
+            self.assertIn("cut off after three digits, that of the ceiling is rounded up.", page.one("header").text())
+            numbers = page.one("section", class_="numbers").text()
+            records = f"Gap plantext of version {version}, 8 records: they show that no path finds more than the ceiling"
+            for part in ("Chance6 of 8", f"Ceiling{ceiling} of 8: rounded up in percent", records):
+                self.assertIn(part, numbers)
+            self.assertNotIn("own sums", numbers)
 
 
 if __name__ == "__main__":

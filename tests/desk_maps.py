@@ -6,7 +6,7 @@ import unittest
 from unittest import mock
 
 from desk import accepted, brief, derived, forms, paths, program, reports, show
-from tests.pages import EXAMPLES, STAND_IN, Room, example, read, tree
+from tests.pages import EXAMPLES, STAND_IN, Drawing, Room, example, read, tree
 
 NAMES = sorted(it[:-7] for it in os.listdir(EXAMPLES) if it.endswith(".report"))
 # Four cells in a row; the boat looks at the first one, and finds three of nine. Worked by hand, as in docs/FORMATS.md.
@@ -55,7 +55,7 @@ class Program(Room):
                 self.assertEqual((answer.status, answer.out, answer.err), (0, derived.map_text(sc, path[:flown]), b""), (name, flown))
 
 
-class Pages(Room):
+class Pages(Drawing):
     def page(self, name):
         """What `show` makes of an example: its status, the page and what is said."""
         return self.run_helper(show.main, self.files(name))
@@ -70,16 +70,14 @@ class Pages(Room):
 
     def test_masses_of_the_page_are_those_of_the_map(self):
         for name in ("drifting-grid", "night", "two-cells"):
-            status, out, err = self.page(name)
-            self.assertEqual((status, err), (0, ""))
+            page = self.shown(*self.files(name))
             sc, path = searched(name)
             answer = program.ask(["map", "flown", *(sc.positions[it].decode() for it in path)], example(name)[0])
             said = [[row.value for row in it.left] for it in reports.read_map(answer.out, paths.weight(sc))]
-            rows = [it for it in tree(out).one(class_="all").one("tbody").all("tr") if it.attributes.get("class") != "sum"]
+            rows = [it for it in page.one(class_="all").one("tbody").all("tr") if it.attributes.get("class") != "sum"]
             shown = [[int(it.attributes["title"].split(" of ")[0]) for it in row.all("td")][1:] for row in rows]
             self.assertEqual([list(it) for it in zip(*shown)], said, name)
-            self.check_figures(tree(out), said)
-            self.assertNotIn("this program has no map", out)
+            self.check_figures(page, said)
 
     def check_figures(self, told, said):
         """Of each look's drawing, where there is one, the masses of its squares are those of the map."""
@@ -96,14 +94,17 @@ class Pages(Room):
         self.assertEqual((status, err), (0, ""))
         self.assertEqual((read(f"{self.room}/words"), read(f"{self.room}/given")), (b"map flown a a\n", text))
 
-    def test_a_program_without_a_map_gets_a_page_by_the_desks_own_sums_that_says_so(self):
-        _, with_map, _ = self.page("two-cells")
+    def test_a_program_without_a_map_gets_the_plan_as_text_and_shows_no_map(self):
+        """The text has the desk's own sums; what the page would draw it takes from the program alone."""
+        with_map = self.page("two-cells")
         for script in ("echo 'osp: map is no command' >&2; exit 2", "echo 'usage: osp plan' >&2; exit 2", "echo 'input too long' >&2; exit 9"):
             self.by_script(script)
-            status, out, err = self.page("two-cells")
-            self.assertEqual((status, err), (0, ""))
-            self.assertIn("this program has no map", out)
-            self.assertEqual([it.text() for it in tree(out).one(class_="all").all("td")], [it.text() for it in tree(with_map).one(class_="all").all("td")])
+            told = self.page("two-cells")
+            self.assertEqual(told[::2], (0, ""))
+            self.assertEqual(tree(told[1]).one("pre", id="text").text(), tree(with_map[1]).one("pre", id="text").text())
+            (its,) = self.opened(told[1])
+            self.assertEqual((its["head"]["className"], {*its}), ("verdict", {"head"}))
+            self.assertIn("Nothing is checked here: the program ended with status ", its["head"]["html"])
 
     def test_a_map_that_is_another_ones(self):
         lines = "map 1\nperiod 1 a\nleft a 0 0.000\nleft b 8 50.000\nperiod 2 a\nleft a 0 0.000\nleft b 4 25.000\nend\n"

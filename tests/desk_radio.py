@@ -8,7 +8,7 @@ import re
 import subprocess
 import unittest
 
-from desk import accepted, brief, carried, comments, derived, markup, masses, onscene, paths, reports, seats, writing
+from desk import accepted, brief, carried, comments, derived, markup, masses, onscene, paths, radio, reports, seats, writing
 from tests import pages, web
 from tests.desk_steering import CORNER, LAND, PLACES, TIMES
 from tests.made import read
@@ -79,7 +79,8 @@ class Case:
 
     def given(self):
         """What the script has of it: what the page carries, and what comes of the plan."""
-        scene = json.loads(onscene.carried(self.page, None, comments.read(self.page, None)[0])["scene"])
+        scene = json.loads(onscene.carried(self.page)["scene"])
+        words = radio.data(self.page, comments.read(self.page, None)[0])
         report, frames = self.made.report, self.made.frames
         left = dict(zip(self.made.cells, frames[-1].left))
         search = {
@@ -92,9 +93,9 @@ class Case:
             "path": [scene["start"], *(scene["at"][it] for it in self.walk)],
             "places": scene["places"],
             "found": [str(it.so_far) for it in frames[1:]],
-            "squares": [[name, str(sum(left[it] for it in cells))] for name, cells in scene["squares"]],
+            "squares": [[self.page.squares.texts[it], str(mass)] for it, mass in enumerate(self.page.squares.sums(list(left.values())))],
         }
-        return {"words": scene["radio"], "search": search}
+        return {"words": words, "search": search}
 
 
 @unittest.skipUnless(web.NODE, "node isn't installed (Debian's package nodejs)")
@@ -159,7 +160,7 @@ class Radio(pages.Room):
     def test_a_page_that_does_not_know_which_places_were_flown_says_so(self):
         made = Case(ALIKE, None, random.Random(9), 2).made
         alone = searched(made.text, made.path)
-        self.assertEqual(onscene.carried(alone, None, comments.read(alone, None)[0]), {})
+        self.assertEqual(onscene.carried(alone), {})
         self.assertIn("several places look alike", onscene.section(alone))
         self.assertNotIn("button", onscene.section(alone))
 

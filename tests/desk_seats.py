@@ -3,9 +3,9 @@ two searchers beside each other. Their plans are by bench/tree. `python3 -m unit
 import os
 import unittest
 
-from desk import accepted, brief, derived, forms, percent, reports, seats, show, writing
+from desk import accepted, brief, carried, derived, forms, percent, reports, seats, show, writing
 from tests.made import GRID, again, forced, paired, read, with_plan
-from tests.pages import EXAMPLES, PLACES, Refusing, Room, example, tree
+from tests.pages import EXAMPLES, PLACES, Drawing, Refusing, Room, example
 
 NAMES = sorted(it[:-7] for it in os.listdir(EXAMPLES) if it.endswith(".report"))
 # From p and q nothing is seen; the searcher may go anywhere.
@@ -139,7 +139,7 @@ class FlownPairs(Room):
         self.assertEqual([it.split()[:4] for it in out.splitlines()[9:12]], [["1", "r0c1", "r1c3", "(flown)"], ["2", "r0c2", "r1c2", "(flown)"], ["3", "r1c2", "r1c3", "16.520"]])
 
 
-class Texts(Room):
+class Texts(Drawing):
     def told(self, helper, made, *words):
         """What a helper writes of one file."""
         status, out, err = self.run_helper(helper.main, [self.write("made", made), *words])
@@ -196,7 +196,7 @@ class Texts(Room):
             report = reports.read(report)
             looks, _ = accepted.asked("map", made[: len(made) - len(rest)], "flown", *(sc.positions[it].decode() for it in path))
             looks = reports.read_map(looks, report.weight)
-            told = tree(self.told(show, made))
+            told = self.shown(self.write("made", made))
             rows = [it for it in told.one(class_="all").one("tbody").all("tr") if it.attributes.get("class") != "sum"]
             shown = [[int(it.attributes["title"].split(" of ")[0]) for it in row.all("td")][1:] for row in rows]
             self.assertEqual([list(it) for it in zip(*shown)], [[row.value for row in it.left] for it in looks])
@@ -205,11 +205,9 @@ class Texts(Room):
             self.assertEqual(told.one(class_="chance").one("strong").text(), f"{percent.cut(report.value, report.weight)}\N{NO-BREAK SPACE}%")
 
 
-class Maps(Room):
+class Maps(Drawing):
     def page(self, made, *words):
-        status, out, err = self.run_helper(show.main, [self.write("made", made), *words])
-        self.assertEqual((status, err), (0, ""))
-        return tree(out)
+        return self.shown(self.write("made", made), *words)
 
     def places(self, told, t):
         """Where the searchers are drawn in a period: the shape and its middle."""
@@ -256,6 +254,19 @@ class Maps(Room):
         told = self.page(made, "--of", self.write("of", text))
         self.assertEqual(self.places(told, 0), [("circle", -100, 100)])
         self.assertIn("and an aircraft that flies along its middle", told.one("header").text())
+
+    def test_a_scenario_that_it_was_not_made_of_is_not_shown(self):
+        """Also not by a page whose maker took another one for it, and whose parts are whole."""
+        grid = self.write("grid", GRID)
+        for made in (forced(GRID, "r0c1"), paired(GRID, "r2c3")):
+            out = self.written(self.write("made", made), "--of", grid)
+            for old, new in ((b"first r1c2", b"first r1c1"), (b"rate 3", b"rate 4"), (b"start r0c0", b"start r1c0"), (b"horizon 3", b"horizon 2"), (b"parts 1 10 10", b"parts 1 10 20")):
+                self.assertIn(old, GRID)
+                other = GRID.replace(old, new)
+                changed = out.replace(carried.packed(GRID), carried.packed(other)).replace(carried.sum_of(GRID), carried.sum_of(other))
+                (its,) = self.opened(changed)
+                self.assertEqual((its["head"]["className"], {*its}), ("verdict", {"head"}), new)
+                self.assertIn("the scenario isn&#x27;t made of the one that is said to be behind it", its["head"]["html"])
 
     def test_a_place_that_is_not_sure_is_told(self):
         text = b"# at a 0 0\n# at b 1 0\n# at p 0 1\n# at q 1 1\n# at r 0 0\n" + BLIND

@@ -1,5 +1,7 @@
 """Tests of `osp show` and `osp brief`: every number against the reports of examples/ and against chances of walks, what is refused,
 hostile texts, and the page in a browser. `python3 -m unittest tests.desk_show`, or tests/desk."""
+import base64
+import gzip
 import json
 import os
 import re
@@ -10,10 +12,10 @@ import unittest.mock
 from decimal import ROUND_DOWN, Decimal, getcontext
 from fractions import Fraction
 
-from desk import accepted, brief, clock, forms, layout, masses, moments, page, percent, picture, program, reports, show, squares, tables
+from desk import accepted, brief, carried, clock, forms, layout, masses, moments, page, percent, program, reports, show, squares
 from tests import finer
 from tests.made import with_plan
-from tests.pages import EXAMPLES, PLACES, Refusing, Room, example, read, tree, walks
+from tests.pages import EXAMPLES, PLACES, Drawing, Refusing, Room, answers, comments_of, example, read, tree, walks
 
 NAMES = sorted(it[:-7] for it in os.listdir(EXAMPLES) if it.endswith(".report"))
 getcontext().prec = 120
@@ -229,7 +231,7 @@ class Clocks(unittest.TestCase):
                 taken(words.split())
 
 
-class Pages(Room):
+class Pages(Drawing):
     made = {}
 
     def page(self, name, more=b"", words=()):
@@ -241,9 +243,8 @@ class Pages(Room):
 
     def new_page(self, name, more, words):
         text, plan = example(name)
-        status, out, err = self.run_helper(show.main, [self.write(f"{name}.scenario", more + text), self.write(f"{name}.plan", plan), *words])
-        self.assertEqual((status, err), (0, ""), name)
-        return tree(out), out
+        out = self.written(self.write(f"{name}.scenario", more + text), self.write(f"{name}.plan", plan), *words)
+        return self.drawn(out)[0], out
 
     def exact(self, element):
         """A share in percent, and its exact fraction, as two numbers."""
@@ -291,11 +292,21 @@ class Pages(Room):
         self.assertEqual([it.text() for it in sums.all("td")], ["0", *(in_map(int(it), whole) for it in report["periods"])])
 
     def test_the_pages_of_the_situations_are_what_is_shown_of_them(self):
-        # (who checked the plan is what the page says of the program that was asked, and stands on it once)
-        checked = "Checked by stand-in-osp, in the place of ./osp.", "Checked by the proved program."
+        """They carry the module that they were made with, which may be another release's, and what they carry else is what is written now."""
         for name in (f"situations/{it}" for it in ("aircraft", "coast-by-night", "harbour-and-dinghy", "kayaker", "tide-and-night")):
-            status, out, err = self.run_helper(show.main, self.files(name))
-            self.assertEqual((status, err, out.replace(*checked)), (0, "", read(f"{EXAMPLES}/{name}.html").decode()), name)
+            there, out = read(f"{EXAMPLES}/{name}.html").decode(), self.written(*self.files(name))
+            (mine,), (its,) = (re.findall(r'<template id="carried-program">([^<]*)', it) for it in (out, there))
+            sums = [carried.sum_of(it) for it in (self.MODULE, gzip.decompress(base64.b64decode(its)))]
+            # (the words for the radio say who checked the plan, and so the checksum of what the page knows besides is another one)
+            known = [re.search(r'"known": "(\w+)"', it)[1] for it in (out, there)]
+            policies = [re.search(r"'sha256-[^']+' 'wasm", it)[0] for it in (out, there)]
+            for one, other in ((mine, its), sums, known, policies, (self.known(out), self.known(there))):
+                out = out.replace(one, other)
+            self.assertEqual(out, there, name)
+
+    def known(self, text):
+        """What a page knows besides, as it stands in it."""
+        return re.search(r'<template id="carried-known">([^<]*)', text)[1]
 
     def test_all_numbers_of_the_maps_are_those_of_walks(self):
         for name, more in (("swath", PLACES.encode()), ("lake-with-island", b"")):
@@ -327,9 +338,8 @@ class Pages(Room):
         self.assertEqual(outlined, {middles[it] for it, part in seen.items() if part < sc.parts[2]})
 
     def test_many_looks_are_split_into_tables_that_fit_on_paper(self):
-        whole, _ = self.page("tide")
-        with unittest.mock.patch.object(tables, "MOST_COLUMNS", 3):
-            parts, _ = self.new_page("tide", b"", ())
+        whole, out = self.page("tide")
+        (parts,) = self.drawn(out.replace("MOST_COLUMNS] = [10, 11]", "MOST_COLUMNS] = [10, 3]"))
         texts = [texts_of(it) for it in parts.one("section", class_="all").all("table")]
         self.assertEqual([len(it[0]) for it in texts], [4, 4, 2])
         joined = [rows[0] + [cell for row in rows[1:] for cell in row[1:]] for rows in zip(*texts)]
@@ -360,9 +370,7 @@ class Pages(Room):
 
     def test_a_plan_of_version_1_and_a_scenario_without_a_last_line_feed(self):
         scenario, plan = self.write("s", example("two-cells")[0].rstrip(b"\n")), f"{EXAMPLES}/two-cells-1.plan"
-        status, out, err = self.run_helper(show.main, [scenario, plan])
-        self.assertEqual((status, err), (0, ""))
-        self.assertIn("text of version 1, 5 records:", out)
+        self.assertIn("text of version 1, 5 records:", self.shown(scenario, plan).text())
 
     def test_times_stand_in_the_table_and_above_the_maps(self):
         told, _ = self.page("kayaker", words=["--from", "23:50", "--minutes", "7"])
@@ -377,8 +385,8 @@ class Pages(Room):
             self.assertEqual(len(ids), len(set(ids)))
             self.assertEqual({it.attributes["aria-describedby"] for it in told.all() if "aria-describedby" in it.attributes} - set(ids), set())
             self.assertTrue(all(it.attributes.get("aria-label") or it.attributes.get("aria-hidden") == "true" for it in told.all("svg")))
-            self.assertTrue(all(any(True for _ in it.all("caption")) for it in told.all("table")))
-            self.assertTrue(all(it.attributes.get("scope") in ("row", "col") for it in told.all("th")))
+            self.assertTrue(all(any(True for _ in it.all("caption")) for it in told.one("main").all("table")))
+            self.assertTrue(all(it.attributes.get("scope") in ("row", "col") for it in told.one("main").all("th")))
             self.assertTrue(all(it.text().strip() or it.attributes.get("aria-label") for it in told.all("button")))
             self.assertEqual(told.one("html").attributes["lang"], "en")
 
@@ -386,25 +394,139 @@ class Pages(Room):
         for name in ("drifting-grid", "swath"):
             told, out = self.page(name)
             policy = told.one("meta", **{"http-equiv": "Content-Security-Policy"}).attributes["content"]
-            self.assertTrue(policy.startswith("default-src 'none'; "))
-            self.assertIn(f"script-src '{page.checksum(told.one('script').text())}'", policy)
-            self.assertIn(f"style-src '{page.checksum(told.one('style').text())}'", policy)
-            keys = {key for it in told.all() for key in it.attributes}
-            self.assertEqual({it for it in keys if it.startswith("on") or it in ("src", "href", "style", "action")}, set())
-            self.assertNotIn("://", out)
+            sums = {tag: " ".join(f"'{page.checksum(it.text())}'" for it in told.all(tag)) for tag in ("script", "style")}
+            wanted = f"default-src 'none'; style-src {sums['style']}; script-src {sums['script']} 'wasm-unsafe-eval'; worker-src blob:; base-uri 'none'; form-action 'none'"
+            self.assertEqual(policy, wanted)
+            for it in (told, tree(out)):
+                keys = {key for each in it.all() for key in each.attributes}
+                self.assertEqual({key for key in keys if key.startswith("on") or key in ("src", "href", "style", "action")}, set())
+            self.assertNotIn("://", out.replace("http://www.w3.org/2000/svg", ""))
             self.assertNotIn("@import", out)
 
 
-class FinerPages(Room):
+class Unchecked(Drawing):
+    """A page of which nothing is checked yet, and one that can't be."""
+
+    NOT_YET = "Not checked yet"
+
+    def text_of(self, out):
+        """What a page says as it is written, with nothing green in it, no chance in its head, and no map: its title, and the plan as text."""
+        told = tree(out)
+        head = told.one("div", id="head")
+        self.assertEqual((head.attributes["class"], head.one("span").text()), ("verdict", self.NOT_YET))
+        self.assertEqual(re.findall(r"\d %|Accepted|class=.?(?:chance|frame)", out.split("<body>")[1].split("<section class=\"as-text\">")[0]), [])
+        self.assertEqual([it.tag for it in told.one("main").all()], ["section", "h2", "div", "pre"])
+        return told.one("pre", id="text").text(), head.one("small").text()
+
+    def test_what_is_written_is_the_plan_as_text(self):
+        """What `brief` writes, but for its verdict and who checked the plan."""
+        for name, words in (("kayaker", ["--from", "23:50", "--minutes", "7"]), ("drifting-grid", [])):
+            files = [*self.files(name), *words]
+            lines = self.run_helper(brief.main, files)[1].splitlines()
+            self.assertTrue(lines[1].startswith("Accepted: ") and lines[2].startswith("Checked by "))
+            text, why = self.text_of(self.written(*files))
+            self.assertEqual(text.splitlines(), [lines[0], "Not checked yet.", *lines[3:]])
+            self.assertIn("Where these words stay, the browser runs no script, or a part of the page is missing.", why)
+
+    def test_a_page_without_a_program_says_so(self):
+        """It has no script, and nothing that one would show."""
+        with unittest.mock.patch.object(carried, "module", lambda search: None):
+            out = self.written(*self.files("kayaker"))
+        self.assertEqual([it.tag for it in tree(out).all() if it.tag in ("script", "template", "button", "svg")], [])
+        self.assertIn("script-src 'none';", out)
+        text, why = self.text_of(out)
+        self.assertIn("Chance to find them: 64.127 %", text)
+        self.assertTrue(why.startswith("This page carries no program that checks its plan, "), why)
+        self.assertTrue(re.search(r"When it was made: Checked by .*\.$", why), why)
+
+    def test_titles_times_and_places_are_told_to_be_uncovered(self):
+        """Once, by the head, before and behind the check."""
+        out = self.written(*self.files("kayaker"))
+        for told in (tree(out), self.drawn(out)[0]):
+            self.assertEqual(told.text().count("come from comments of the scenario, which no proof covers."), 1)
+            self.assertIn("Titles, times and places come from comments of the scenario", told.one("header").text())
+
+    def test_the_words_for_the_radio_are_those_of_brief(self):
+        for name, words in (("kayaker", ["--from", "23:50", "--minutes", "7"]), ("drifting-grid", []), ("night", []), ("situations/kayaker", [])):
+            files = [*self.files(name), *words]
+            self.assertEqual(self.shown(*files).one("pre", id="radio-text").text(), self.run_helper(brief.main, files)[1], name)
+
+    def test_checksums_are_those_of_what_the_page_carries(self):
+        told = self.shown(*self.files("kayaker"))
+        self.assertEqual([it.text() for it in told.one("section", class_="numbers").all("dd", class_="sum")], [carried.sum_of(it) for it in example("kayaker")])
+
+    def test_a_page_of_which_a_part_is_changed_shows_nothing(self):
+        """The parts are told by name, in red, and the plan as text stays."""
+        out = self.written(f"{EXAMPLES}/drifting-grid-flown.made", "--of", f"{EXAMPLES}/drifting-grid.scenario", "--from", "23:50", "--minutes", "7")
+        scenario = example("drifting-grid")[0]
+        pages = {
+            "the program": self.embedded(out, "program", self.MODULE[:-1] + b"f"),
+            "the scenario": self.embedded(out, "scenario", b"# another title\n" + scenario),
+            "the plan": self.embedded(out, "plan", example("drifting-grid")[1]),
+            "the scenario that it was made of": self.embedded(out, "of", b"# at r0c0 1 2\n" + scenario),
+            "what is known besides": self.embedded(out, "known", b"{}"),
+            "what is needed to plan the rest": self.embedded(out, "scene", b"{}"),
+            "the plan as text": re.sub(r"(Chance to find them: )16\.", r"\g<1>96.", out),
+            "the plan, what is known besides": self.embedded(self.embedded(out, "plan", b"plan"), "known", b"known"),
+        }
+        broken = {"the plan": lambda it: it[:40] + "!" + it[41:], "the scenario": lambda it: it[:-12] + it[-8:], "the program": lambda it: ""}
+        told = self.opened(*pages.values(), *(self.changed(out, name.split()[1], change) for name, change in broken.items()))
+        for name, its in zip([*pages, *broken], told, strict=True):
+            with self.subTest(name):
+                head = tree(its["head"]["html"])
+                self.assertEqual((its["head"]["className"], head.one("span").text()), ("verdict refused", "This page is damaged, and nothing of it is shown"))
+                self.assertIn(f"not as they were are {name}. ", head.one("small").text())
+                self.assertEqual({*its}, {"head"})
+
+    def changed(self, out, name, change):
+        """A page with the text of one of its templates changed."""
+        found = re.search(f'(?<=<template id="carried-{name}">)[^<]*', out)
+        return out[: found.start()] + change(found[0]) + out[found.end() :]
+
+    def embedded(self, out, name, content):
+        """A page with other bytes in one of its templates."""
+        return self.changed(out, name, lambda text: carried.packed(content))
+
+    def test_a_plan_that_the_program_refuses_is_told_in_red(self):
+        """Of parts that are whole: a page of a wrong plan, whoever made it."""
+        lacking = read(f"{EXAMPLES}/two-cells-lacking.plan")
+        out = self.written(*self.files("two-cells"))
+        cases = {
+            "Rejected: line 8 of the plan, MissingChild.": lacking,
+            "Rejected: line 3 of the plan, ValueWrong.": example("two-cells")[1].replace(b"chance 12", b"chance 13"),
+            "Not accepted: bad plan: line 1 BadLine.": b"nothing\n",
+        }
+        pages = [self.embedded(out, "plan", it).replace(carried.sum_of(example("two-cells")[1]), carried.sum_of(it)) for it in cases.values()]
+        for said, its in zip(cases, self.opened(*pages), strict=True):
+            self.assertEqual((its["head"]["className"], tree(its["head"]["html"]).one("span").text()), ("verdict refused", said))
+            self.assertEqual({*its}, {"head"}, said)
+
+    def test_a_program_that_gives_no_verdict_leaves_it_unchecked(self):
+        """Whatever it answers: no memory, another word than accepted, no map, or that of another path, or other masses."""
+        out, first = self.written(*self.files("two-cells")), 'case $1 in check) echo accepted ;; map)'
+        right = "map 1\nperiod 1 a\nleft a 0 0.000\nleft b 8 50.000\nperiod 2 a\nleft a 0 0.000\nleft b 4 25.000\nend\n"
+        for script, part in (
+            ("echo no memory >&2; exit 7", "the program ended with status 7 (no memory)"),
+            ("echo well", "the program ended with status 0 (well)"),
+            (f"{first} exit 2 ;; esac", "the program ended with status 2 ()"),
+            (f"{first} printf '{right.replace('b 4', 'b 5')}' ;; esac", "the masses of the map aren't those of the plan"),
+            (f"{first} printf '{right.replace('period 2 a', 'period 2 b')}' ;; esac", "the masses of the map aren't those of the plan"),
+            (f"{first} printf '' ;; esac", "the masses of the map aren't those of the plan"),
+        ):
+            with unittest.mock.patch.object(program, "OSP", self.write("program", f"#!/bin/sh\ncat > /dev/null\n{script}\n".encode())):
+                os.chmod(program.OSP, 0o755)
+                (its,) = self.opened(out)
+            head = tree(its["head"]["html"])
+            self.assertEqual((its["head"]["className"], head.one("span").text()), ("verdict", self.NOT_YET), script)
+            self.assertIn(part, head.one("small").text())
+            self.assertEqual({*its} - {"head"}, set(), script)
+
+
+class FinerPages(Drawing):
     """The page and the text of tests/finer.py: squares where one reads, states where a number is exact."""
 
-    def made(self, helper, text=finer.TEXT):
-        status, out, err = self.run_helper(helper.main, [self.write("s", with_plan(text))])
-        self.assertEqual((status, err), (0, ""))
-        return out
-
     def page(self, text=finer.TEXT):
-        return tree(self.made(show, text))
+        return self.shown(self.write("s", with_plan(text)))
 
     def test_the_maps(self):
         """256 is the whole. A state is a quarter of a square: 64 of it make a square's worth of 256, or 100 percent."""
@@ -423,7 +545,7 @@ class FinerPages(Room):
 
     def check_places(self, figure, parts, t):
         """Where states lie, and the outlines of squares and of what the look covers. A square is 100 units wide, and r0c0's middle is 0 0."""
-        side = (100 - picture.GAP) / 2 - picture.THIN_GAP
+        side = (100 - 2) / 2 - 0.5
         places = {name: tuple(round(float(it.attributes[key]) + side / 2) for key in "xy") for name, it in parts.items()}
         self.assertEqual(places, {"r0c0-01": (-25, -25), "r0c0-02": (25, -25), "r0c0-04": (25, 25), "r0c1-01": (75, -25), "r0c1-03": (75, 25)})
         borders = [(it.attributes["x"], it.attributes["y"]) for it in figure.one("g", class_="borders").all("rect")]
@@ -458,7 +580,9 @@ class FinerPages(Room):
         self.assertNotIn("per square:", told.text())
 
     def test_the_brief(self):
-        lines = self.made(brief).splitlines()
+        status, out, err = self.run_helper(brief.main, [self.write("s", with_plan(finer.TEXT))])
+        self.assertEqual((status, err), (0, ""))
+        lines = out.splitlines()
         at = lines.index("If nothing was found, they are after look 3 in")
         due = ["square    of all  of what is left", "r0c0    12.500 %         50.000 %", "r0c1     6.250 %         25.000 %", "lost     6.250 %         25.000 %"]
         self.assertEqual(lines[at + 1 : at + 6], [*due, ""])
@@ -486,11 +610,15 @@ def colour(it):
     return 1 + sum(it * 100 >= least for least in (Fraction(1, 10), Fraction(3, 10), 1, 3, 10, 30))
 
 
-class Drawing(unittest.TestCase):
+class Drawn(Drawing):
+    def asked(self, of, given=None):
+        """What a function of the script answers."""
+        return answers([{"of": of, "given": given}])[0]
+
     def test_the_scale_says_the_limits(self):
-        told = dict(picture.class_names())
+        told = dict(self.asked("names"))
         self.assertEqual([told[it] for it in range(8)], ["0", "below 0.1", "0.1 to 0.3", "0.3 to 1", "1 to 3", "3 to 10", "10 to 30", "30 and more"])
-        at_limits = [picture.class_of(it, 10_000) for it in (0, 1, 9, 10, 29, 30, 99, 100, 299, 300, 999, 1000, 2999, 3000, 10_000)]
+        at_limits = self.asked("classes", [0, 1, 9, 10, 29, 30, 99, 100, 299, 300, 999, 1000, 2999, 3000, 10_000])
         self.assertEqual(at_limits, [0, 1, 1, 2, 2, 3, 3, 4, 4, 5, 5, 6, 6, 7, 7])
 
     def test_colours_grow_darker_and_texts_are_to_be_read_on_them(self):
@@ -505,19 +633,22 @@ class Drawing(unittest.TestCase):
             self.assertGreaterEqual(1.05 / (of[name] + 0.05), 4.5, name)
 
     def test_ranges_and_short_names(self):
-        self.assertEqual([picture.ranges(it) for it in ([3], [1, 2], [1, 3, 4, 5, 8], [1, 3, 5, 7, 9])], ["3", "1–2", "1·3–5·8", "1·3·…"])
-        self.assertEqual([picture.short(it) for it in ("a" * 13, "a" * 14)], ["a" * 13, "a" * 12 + "…"])
+        self.assertEqual([self.asked("ranges", it) for it in ([3], [1, 2], [1, 3, 4, 5, 8], [1, 3, 5, 7, 9])], ["3", "1–2", "1·3–5·8", "1·3·…"])
+        self.assertEqual([self.asked("short", it) for it in ("a" * 13, "a" * 14)], ["a" * 13, "a" * 12 + "…"])
 
     def test_a_leg_that_is_gone_again_is_another_curve(self):
         """The arrow of a straight leg lies in its middle and points along it; the next one lies to its right (south of a way east)."""
-        curve, arrow = picture.leg((0, 0), (100, 0), 0)
-        self.assertEqual((curve, arrow), ("M0 0Q50 0 100 0", "M59 0L44 7L44 -7Z"))
-        self.assertEqual(picture.leg((0, 0), (100, 0), 12)[0], "M0 0Q50 24 100 0")
+        self.assertEqual(self.asked("leg", [[0, 0], [100, 0], 0]), {"curve": "M0 0Q50 0 100 0", "arrow": "M59 0L44 7L44 -7Z"})
+        self.assertEqual(self.asked("leg", [[0, 0], [100, 0], 12])["curve"], "M0 0Q50 24 100 0")
 
     def test_the_comment_at_the_front(self):
-        self.assertEqual(page.comment(b"# one\n\n#  two \n# at a 1 2\n#\n  # three\nscenario 1\n# four\n"), "one\ntwo\nthree")
-        self.assertEqual(page.comment(b"# \xff\x00\x1b[1m \xc3\xa9\nscenario 1"), "\ufffd\ufffd\ufffd[1m \xe9")
-        self.assertEqual(len(page.comment(b"# " + b"x" * 10**6)), page.MOST_COMMENT + 2)
+        comment = comments_of
+        self.assertEqual(comment(b"# one\n\n#  two \n# at a 1 2\n#\n  # three\nscenario 1\n# four\n"), "one\ntwo\nthree")
+        self.assertEqual(comment(b"# \xff\x00\x1b[1m \xc3\xa9\nscenario 1"), "\ufffd\ufffd\ufffd[1m \xe9")
+        self.assertEqual(comment(b"##  \x0b\x0c two\x85 \n# \xe2\x80\xae\xc2\xa0 turned\nscenario 1"), "two\ufffd\n\ufffd\ufffd turned")
+        self.assertEqual(len(comment(b"# " + b"x" * 10**6)), 4000 + 2)
+        leads = b"# Names are so. Metres east and south of the north-west corner:\n# Metres east and south of the north-west corner:\n# earth 1 2\n"
+        self.assertEqual(comment(leads + b"# at the pier\n# at r0c0 1 2\nscenario 1\n"), "Names are so.\nat the pier")
 
 
 def luminance(colour_text):

@@ -9,7 +9,7 @@ from fractions import Fraction
 
 from desk import accepted, brief, draft, flights, flying, forms, patterns, show, situation, tracks, trial, tried
 from tests.made import forced, paired, with_plan
-from tests.pages import Refusing, Room, tree
+from tests.pages import Drawing, Refusing, Room, tree
 
 HALF, QUARTER = Fraction(1, 2), Fraction(1, 4)
 # Squares of a nautical mile and periods of an hour: with two knots, half an hour and a sweep width of a square's side a look's coverage
@@ -545,7 +545,7 @@ class Made(Told):
         self.assertEqual((found["finds"], found["notes"]), (round(1 - MISS * MISS, 6), []))
 
 
-class Shown(Told):
+class Shown(Told, Drawing):
     """What `show` and `brief` say of a trial."""
 
     def files(self, text=LINE):
@@ -568,9 +568,11 @@ class Shown(Told):
         self.assertIn(f" % by the plan's own sums; {says}\n", out.replace("\nsimulated", " simulated"))
         self.assertNotIn("no good image", out)
         self.assertLessEqual(max(map(len, out.splitlines())), brief.WIDTH)
-        page = tree(self.ran(show, words))
+        page = self.shown(*words)
         self.assertIn(says, page.one("header").text())
-        self.assertNotIn("simulated", self.ran(brief, words[:2]) + self.ran(show, words[:2]))
+        self.assertEqual(page.one("pre", id="radio-text").text(), out)
+        without = self.written(*words[:2])
+        self.assertNotIn("simulated", self.ran(brief, words[:2]) + tree(without).text() + self.drawn(without)[0].text())
 
     def test_an_image_that_is_no_good(self):
         """A plan of a scenario whose looks find half as much as those of the situation."""
@@ -580,18 +582,20 @@ class Shown(Told):
         out = self.ran(brief, [*words[:3], self.write("off.json", json.dumps(found).encode())])
         self.assertIn("50.00 ± 0.00 % of 1,000", out.replace("\n", " "))
         self.assertIn("So the scenario is no good image of these drifts", out.replace("\n", " "))
+        page = self.shown(*words[:3], f"{self.room}/off.json")
+        self.assertRegex(page.one("header").text(), r" 50\.00 ± 0\.00 % of 1,000 simulated drifts\. So the scenario is no good image of these drifts: osp trial says why\.")
 
     def test_drifts_over_the_map(self):
         """Places are drawn where the squares are: one dot in the middle of r0c1 at the first look, none for what is lost, none before."""
         words, found = self.files()
         found["drifts"] = [[[1852 + 926, 926], None], [None, [1852 * 2 + 463, 463]]]
-        page = tree(self.ran(show, [*words[:3], self.write("two.json", json.dumps(found).encode())]))
+        page = self.shown(*words[:3], self.write("two.json", json.dumps(found).encode()))
         dots = [[it.attributes["d"] for it in page.one("figure", id=f"after-{t}").all("path", class_="drifts")] for t in (0, 1, 2)]
         # (The middle of the first square is the picture's origin, and a square is 100 wide.)
         self.assertEqual(dots, [[], ["M100 0h0"], ["M175 -25h0"]])
         box = page.one("input", id="drifts")
         self.assertNotIn("checked", box.attributes)
-        self.assertEqual(list(tree(self.ran(show, words[:2])).all("input", id="drifts")), [])
+        self.assertEqual(list(self.shown(*words[:2]).all("input", id="drifts")), [])
 
     def test_other_trials_are_refused(self):
         words, found = self.files()

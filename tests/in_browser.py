@@ -17,6 +17,12 @@ from selenium.webdriver.common.by import By  # noqa: E402
 from selenium.webdriver.common.keys import Keys  # noqa: E402
 
 DESKTOP, PHONE = (1280, 900), (390, 844)
+# How many seconds a page has until it says something, on a machine that others keep busy; and whether it does.
+SECONDS = 120
+SETTLED = """
+const [head, part] = ["head", "onscene"].map((it) => document.getElementById(it));
+const isShown = head !== null && head.classList.contains("good");
+return head === null || (!head.innerText.includes("Being checked") && (!isShown || !part.hidden));"""
 
 
 class Visit:
@@ -31,9 +37,16 @@ class Visit:
         self.browser.sized(size)
 
     def open(self, size):
-        """Opens the page anew in a view of this size."""
+        """Opens the page anew in a view of this size, and waits until it has checked itself, where it does so."""
         self.resize(size)
         self.browser.get("file://" + self.page)
+        self.settle()
+
+    def settle(self):
+        """Waits until the page has checked itself, and shows what it shows then."""
+        ends = time.monotonic() + SECONDS
+        while not self.run(SETTLED) and time.monotonic() < ends:
+            time.sleep(0.05)
 
     def run(self, script, *given):
         return self.browser.execute_script(script, *given)
@@ -99,6 +112,7 @@ def stops(visit):
     """All that Tab comes to, from the top of the page, in order."""
     visit.run("document.activeElement.blur(); window.scrollTo(0, 0)")
     visit.browser.get("file://" + visit.page)
+    visit.settle()
     seen = []
     for _ in range(400):
         ActionChains(visit.browser).send_keys(Keys.TAB).perform()

@@ -1,15 +1,20 @@
-"""What the tests of `osp show` and `osp brief` share: a folder with files, the program that they ask, and a reader of pages."""
+"""What the tests of `osp show` and `osp brief` share: a folder with files, the program that they ask, and a reader of pages, also of what
+their script draws."""
+import base64
 import contextlib
 import io
+import json
 import os
 import shutil
+import subprocess
 import tempfile
 import unittest
 from fractions import Fraction
 from html.parser import HTMLParser
 from unittest import mock
 
-from desk import carried, program
+from desk import carried, page, program, show
+from tests import web
 
 TOP = os.path.dirname(os.path.dirname(os.path.realpath(__file__)))
 EXAMPLES = os.path.join(TOP, "examples")
@@ -41,6 +46,21 @@ def read(path):
 def example(name):
     """The bytes of an example's scenario and plan."""
     return read(f"{EXAMPLES}/{name}.scenario"), read(f"{EXAMPLES}/{name}.plan")
+
+
+def answers(asked):
+    """What functions of the script of pages answer to each of these (tests/script_in_node.mjs)."""
+    with tempfile.NamedTemporaryFile(suffix=".js") as script:
+        script.write((page.rules() + "".join(map(page.asset, page.SHOWING[:-1]))).encode())
+        script.flush()
+        words = [web.NODE, f"{TOP}/tests/script_in_node.mjs", script.name]
+        done = subprocess.run(words, input="\n".join(map(json.dumps, asked)), stdout=subprocess.PIPE, text=True, check=True)
+    return [json.loads(it) for it in done.stdout.splitlines()]
+
+
+def comments_of(text):
+    """What a page says of the comments at the front of a scenario, given as bytes."""
+    return answers([{"of": "comment", "given": base64.b64encode(text).decode("ascii")}])[0]
 
 
 def walks(sc):
@@ -81,6 +101,47 @@ class Room(unittest.TestCase):
         return status, out.read(), err.getvalue()
 
 
+class Drawing(Room):
+    """A test of what the script of pages draws, in node. Their program is the one that the test asks, and a stand-in for its module is carried."""
+
+    MODULE = b"the module"
+
+    def setUp(self):
+        super().setUp()
+        if not web.NODE:
+            self.skipTest("node isn't installed (Debian's package nodejs)")
+        patch = mock.patch.object(carried, "module", lambda search: self.MODULE)
+        patch.start()
+        self.addCleanup(patch.stop)
+
+    def written(self, *words, said=""):
+        """The page that `show` writes of these words, which says no more than this on standard error."""
+        status, out, err = self.run_helper(show.main, words)
+        self.assertEqual((status, err), (0, said))
+        return out
+
+    def opened(self, *texts):
+        """What the script made of each page (tests/page_in_node.mjs)."""
+        files = [self.write(f"page-{at}.html", it.encode()) for at, it in enumerate(texts)]
+        # (The program itself, without the front door, which looks at all sources before each run.)
+        asked = web.PROGRAM if program.OSP == os.path.join(TOP, "osp") else program.OSP
+        words = [web.NODE, f"{TOP}/tests/page_in_node.mjs", asked]
+        done = subprocess.run(words, input="\n".join(files), stdout=subprocess.PIPE, text=True, check=True)
+        return [json.loads(it) for it in done.stdout.splitlines()]
+
+    def drawn(self, *texts):
+        """The trees of pages as they are once their script has shown the plan, which has to be accepted."""
+        found = []
+        for text, told in zip(texts, self.opened(*texts), strict=True):
+            self.assertEqual(told["head"]["className"], "verdict good", told["head"]["html"])
+            found.append(made_of(text, told))
+        return found
+
+    def shown(self, *words):
+        """The tree of the page that `show` writes of these words, with what its script draws."""
+        return self.drawn(self.written(*words))[0]
+
+
 class Refusing(Room):
     """A test of what several helpers refuse alike."""
 
@@ -100,8 +161,11 @@ class Element:
     def __init__(self, tag, attributes):
         self.tag, self.attributes, self.parts = tag, dict(attributes), []
 
+    # What is no text of the elements around it.
+    UNSEEN = ("script", "style", "template")
+
     def text(self):
-        return "".join(it if isinstance(it, str) else it.text() for it in self.parts)
+        return "".join(it if isinstance(it, str) else "" if it.tag in self.UNSEEN else it.text() for it in self.parts)
 
     def all(self, tag=None, **wanted):
         """All elements below with this tag and these attributes; `class_` is one of the classes."""
@@ -125,12 +189,16 @@ class Tree(HTMLParser):
     """Reads a page into elements, and fails where a tag isn't closed by its own."""
 
     VOID = ("meta", "input", "br")
+    # Whose end tags may lack, and do in pages that end with what begins their check.
+    OPEN = ("body", "html")
 
     def __init__(self, text):
         super().__init__()
         self.open = [Element("", {})]
         self.feed(text)
         self.close()
+        while self.open[-1].tag in self.OPEN:
+            self.open.pop()
         if len(self.open) != 1:
             raise AssertionError(f"left open: {self.open[-1].tag}")
 
@@ -153,3 +221,19 @@ class Tree(HTMLParser):
 
 def tree(text):
     return Tree(text).open[0]
+
+
+def made_of(text, told):
+    """The tree of a page in which a script made this of its elements (tests/page_in_node.mjs)."""
+    made = tree(text)
+    for name, its in told.items():
+        element = made.one(id=name)
+        if "html" in its:
+            element.parts = tree(its["html"]).parts
+        elif "text" in its:
+            element.parts = [its["text"]]
+        attributes = {key: its[name] for key, name in (("class", "className"), ("media", "media")) if name in its}
+        element.attributes.update(attributes)
+        if its.get("hidden") is False:
+            element.attributes.pop("hidden", None)
+    return made

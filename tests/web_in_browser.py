@@ -13,25 +13,22 @@ import time
 sys.dont_write_bytecode = True
 sys.path.insert(0, os.path.dirname(os.path.realpath(__file__)))
 import browsers  # noqa: E402
-from in_browser import DESKTOP, Keys, Visit  # noqa: E402
+from in_browser import DESKTOP, SECONDS, Keys, Visit  # noqa: E402
 
 TABLET = (820, 1180)
-# How many seconds a page has until it says something, on a machine that others keep busy.
-SECONDS = 120
 
 
 def settled(visit):
-    """What the head of the page says, once it says it."""
-    ends = time.monotonic() + SECONDS
-    while visit.run("return document.getElementById('verdict').innerText").find("Being checked") >= 0 and time.monotonic() < ends:
-        time.sleep(0.1)
+    """What the head of the page says, once it says it, and in which colours; and what is shown below."""
+    visit.settle()
     return visit.run(
         """
         const seen = (it) => it && it.innerText;
-        const colour = getComputedStyle(document.querySelector("#verdict span")).color;
+        const colours = [getComputedStyle(document.querySelector("#head span")).color, getComputedStyle(document.getElementById("head")).borderLeftColor];
         return {
-          said: seen(document.querySelector("#verdict span")), by: seen(document.querySelector("#verdict small")),
-          worth: seen(document.querySelector(".worth")), colour, wide: document.documentElement.scrollWidth - window.innerWidth,
+          said: seen(document.querySelector("#head span")), by: seen(document.querySelector("#head small")), head: seen(document.getElementById("head")),
+          worth: seen(document.querySelector(".worth")), colours, wide: document.documentElement.scrollWidth - window.innerWidth,
+          maps: document.querySelectorAll("svg.map").length, text: seen(document.getElementById("text")), body: document.body.innerText,
         };"""
     )
 
@@ -111,7 +108,7 @@ def drawn(visit):
     """What a page shows below its head, as markup, and how the map that is to be seen is drawn: of each of its elements what the style says."""
     return visit.run(
         """
-        const shown = document.querySelector("#planner-shown") || document.querySelector("main");
+        const shown = document.querySelector(".shown");
         const map = shown.querySelector(".frame:not([hidden]) svg.map");
         const told = (it) => ["fill", "stroke", "strokeWidth", "fontSize", "width", "height", "display"].map((key) => getComputedStyle(it)[key]);
         return { markup: shown.innerHTML, styles: map && [...map.querySelectorAll("*")].map((it) => [it.tagName, ...told(it)]) };"""
