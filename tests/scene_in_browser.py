@@ -41,7 +41,7 @@ return map === null ? null : {
   cells: [...map.querySelectorAll(".cells rect")].map((it) => [it.getAttribute("class"), it.textContent]),
   texts: [...map.querySelectorAll(".texts > g")].map((it) => [it.getAttribute("class"), ...texts(it)]),
   signs: [...map.querySelectorAll(".searcher text")].map((it) => it.textContent),
-  legs: ["gone", "now", "coming"].map((it) => map.querySelectorAll(`g.${it} path`).length),
+  legs: ["gone", "now", "coming"].map((it) => map.querySelectorAll(`g.${it} path.arrow`).length),
 };"""
 # Clicks and submits all that marks, also where it is locked.
 FORCED = """
@@ -111,10 +111,10 @@ def saved(visit, folder, name=None):
 
 
 def drawn(visit):
-    """What the page shows below its head, as markup, its first map being seen."""
+    """What the page shows below its head, as markup, its first map being seen. (A row that was marked has a class that is empty.)"""
     visit.run("document.activeElement.blur()")
     visit.press(Keys.HOME)
-    return visit.run("return document.getElementById('shown').innerHTML")
+    return visit.run("return document.getElementById('shown').innerHTML.replaceAll(' class=\"\"', '')")
 
 
 def tried(visit, folder, name, wanted):
