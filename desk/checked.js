@@ -49,7 +49,7 @@ const checked = (function () {
     if (answer.status !== ACCEPTED || answer.out !== "accepted\n") {
       return { answer };
     }
-    const map = await ask(["map", "flown", ...reading.plan(behind).path], own);
+    const map = await ask(["map", "flown", ...reading.plan(behind).path], reading.bare(own));
     if (map.status !== ACCEPTED) {
       return { answer: map };
     }

@@ -80,7 +80,7 @@
   // Shows an accepted plan, or gap plan, of what was given, as a page of `show` does. All that the program says of it is asked before.
   async function show(given, plan, word, checked) {
     const both = carried.joined(given.scenario, plan);
-    const mapped = await ask(["map", "flown", ...reading.plan(plan).path], given.scenario);
+    const mapped = await ask(["map", "flown", ...reading.plan(plan).path], reading.bare(given.scenario));
     const report = word === "check" ? await ask(["report"], both) : null;
     const own = await shown.search(given.scenario, plan, mapped.out);
     const here = markup.filled("checked_here", { seconds: checked.seconds.toFixed(2) });

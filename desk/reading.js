@@ -37,6 +37,11 @@ const reading = (function () {
     return letters(bytes).split("\n").map((it) => stripped(it));
   }
 
+  // The text of an accepted scenario without its comments, which `map`, other than `check`, counts for its length.
+  function bare(bytes) {
+    return new TextEncoder().encode(lines(bytes).filter((it) => it !== "" && !it.startsWith("#")).map((it) => `${it}\n`).join(""));
+  }
+
   // A row of cells with a part each, by the numbers of the cells.
   function row(fields, cells) {
     return new Map(fields.flatMap((it, at) => (at % 2 ? [] : [[cells.get(it), Number(fields[at + 1])]])));
@@ -163,5 +168,5 @@ const reading = (function () {
     return { version: (said.plan || said.gap)[0], path: said.path, value, weight, ceiling, records: Number(said.nodes[0]) };
   }
 
-  return { lines, scenario, times, timesFrom, comment, parts, plan };
+  return { lines, bare, scenario, times, timesFrom, comment, parts, plan };
 }());

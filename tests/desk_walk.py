@@ -5,10 +5,10 @@ import re
 import subprocess
 import unittest
 
-from desk import brief, chart, draft, earth, forms, packages, show, trial
+from desk import brief, chart, draft, earth, forms, packages, trial
 from tests.made import forced, with_plan
 from tests.packaged import needing, on_earth
-from tests.pages import IS_BUILT, TOP, Room
+from tests.pages import IS_BUILT, TOP, Drawing
 
 # Squares of 600 m from a corner at 57 degrees 43.5 minutes north and 10 degrees 35 minutes east. The tide turns at 19:50, and the sun sets
 # at 20:10, in period 3.
@@ -63,7 +63,7 @@ def middle(name):
 
 
 @on_earth
-class Walk(Room):
+class Walk(Drawing):
     def ran(self, main, *words):
         """What a helper writes that ends well."""
         status, out, err = self.run_helper(main, list(words))
@@ -96,7 +96,9 @@ class Walk(Room):
         self.assertIn("of 1,000 simulated drifts", " ".join(first.split()))
         # By day 150 m; in period 3 (20:00 to 20:15) 10 of 15 minutes by day; by night 60 m: 150 * (10 + 0.4 * 5) / 15 = 120.
         self.assertIn("The sweep width is 150 m in periods 1 to 2, 120 m in period 3, 60 m in period 4.", " ".join(first.split()))
-        self.assertIn("20:15", self.ran(show.main, *files, "--trial", told))
+        (its,) = self.drawn(self.written(*files, "--trial", told))
+        self.assertEqual(its.one("pre", id="radio-text").text(), first)
+        self.assertIn("(20:15 to 20:30)", its.one("figure", id="after-4").one("strong").text())
         self.ran(chart.main, *files, "-o", f"{self.room}/strait.gpx")
         gpxpy = packages.module("gpxpy", "python3-gpxpy", "this case needs")
         with open(f"{self.room}/strait.gpx", encoding="utf-8") as file:

@@ -18,7 +18,7 @@ from tests import answers, made, pages, web  # noqa: E402
 from tests.carrying import Carrying  # noqa: E402
 from tests.web import TOP, Answer, Case  # noqa: E402
 
-from desk import carried, planner  # noqa: E402
+from desk import carried, page as planned_page, planner  # noqa: E402
 
 sys.path.insert(0, os.path.join(TOP, "door", "web"))
 import build  # noqa: E402
@@ -273,6 +273,20 @@ def embedded(page, name, content):
     return re.sub(f'(<template id="carried-{name}">)[^<]*', lambda it: it[1] + carried.packed(content), page)
 
 
+def forged(page, name, content):
+    """The page of somebody who makes it of other bytes: with their checksum, and a policy that allows the script with that."""
+    made = embedded(page, name, content)
+    last = made.rindex("checked.begin(")
+    script = re.sub(rf'("{name}": )"\w+"', rf'\1"{carried.sum_of(content)}"', made[last:])
+    its = [planned_page.checksum(it.removesuffix("</script>\n")) for it in (made[last:], script)]
+    return made[:last].replace(*its) + script
+
+
+def turned(content, at, bit):
+    """Bytes with one bit the other way round."""
+    return content[:at] + bytes([content[at] ^ 1 << bit]) + content[at + 1 :]
+
+
 def less(plan):
     """A plan whose chance is one less."""
     return re.sub(rb"(?m)^chance (\d+)", lambda it: b"chance %d" % (int(it[1]) - 1), plan)
@@ -312,24 +326,81 @@ class InBrowser:
     """Pages that carry the program and check themselves, in a browser without a window: the cases of each browser."""
 
     def made(self):
-        """The pages by name: as they are made, with a plan that was changed, and for a browser without WebAssembly."""
+        """The pages by name: as they are made, of a plan that isn't accepted or a module that is none, and for a browser without WebAssembly."""
         grid, cells = (self.page(*self.files(it)) for it in ("drifting-grid", "two-cells"))
         plan, few, both = pages.example("drifting-grid")[1], f"{pages.EXAMPLES}/two-cells.gap", f"{pages.EXAMPLES}/night-two.made"
         gap, pair = self.page(f"{pages.EXAMPLES}/two-cells.scenario", few), self.page(both, "--of", f"{pages.EXAMPLES}/night.scenario")
         return {
             "grid": grid,
             "gap": gap,
-            "low": embedded(gap, "plan", pages.read(few).replace(b"ceiling 12", b"ceiling 11")),
+            "low": forged(gap, "plan", pages.read(few).replace(b"ceiling 12", b"ceiling 11")),
             "pair": pair,
-            "worse": embedded(pair, "plan", less(pages.read(both).split(b"\nend\n", 1)[1])),
+            "worse": forged(pair, "plan", less(pages.read(both).split(b"\nend\n", 1)[1])),
             "edges": self.page(f"{pages.EXAMPLES}/swath.scenario", f"{pages.EXAMPLES}/swath.gap"),
-            "better": embedded(grid, "plan", plan.replace(b"chance 2", b"chance 3")),
-            "lacking": embedded(cells, "plan", pages.read(f"{pages.EXAMPLES}/two-cells-lacking.plan")),
-            "unread": embedded(grid, "plan", plan.replace(b"nodes", b"node")),
-            "scenario": embedded(grid, "scenario", b"scenario 3\n"),
-            "broken": embedded(grid, "program", b"\0asm"),
+            "better": forged(grid, "plan", plan.replace(b"chance 2", b"chance 3")),
+            "lacking": forged(cells, "plan", pages.read(f"{pages.EXAMPLES}/two-cells-lacking.plan")),
+            "unread": forged(grid, "plan", plan.replace(b"nodes", b"node")),
+            "scenario": forged(grid, "scenario", b"scenario 3\n"),
+            "broken": forged(grid, "program", b"\0asm"),
             "without": grid,
         }
+
+    # What stands in a page of which nothing is checked, and in one that was changed; and the colours of what is accepted, and of what is wrong.
+    NOT_YET, DAMAGED = "Not checked yet", "This page is damaged, and nothing of it is shown"
+    GOOD, WRONG = "rgb(16, 96, 59)", "rgb(163, 21, 31)"
+
+    def tampered(self, made):
+        """Changes of a page that somebody made or a line lost, by name: what the page says then, and what stands beside that."""
+        stays, scenario = "Where these words stay, the browser runs no script, or a part of the page is missing.", pages.example("drifting-grid")[0]
+        parts = lambda name: f"not as they were are {name}."
+        main = re.search(r"script-src '(sha256-[^']+)'", made)[1]
+        program = pages.read(web.MODULE)
+        packed = re.search('<template id="carried-scenario">([^<]*)', made)[1]
+        return {
+            "half": (made[: len(made) // 2], self.NOT_YET, stays),
+            "thirds": (made[: len(made) * 2 // 3], self.NOT_YET, stays),
+            "nearly": (made[:-2], self.NOT_YET, stays),
+            "begins": (made[: made.index("checked.begin(")], self.NOT_YET, stays),
+            "refused": (made.replace(main, f"sha256-{'A' * 43}="), self.NOT_YET, stays),
+            "none": (re.sub("script-src [^;]*;", "script-src 'none';", made), self.NOT_YET, stays),
+            "script": (made.replace("[10, 11]", "[10, 12]"), self.NOT_YET, stays),
+            "sum": (re.sub(r'("plan": ")(\w)', lambda it: it[1] + ("0" if it[2] != "0" else "1"), made), self.NOT_YET, stays),
+            "workers": (made.replace("worker-src blob:", "worker-src 'none'"), self.NOT_YET, "Nothing is checked here: the browser stopped it ("),
+            "data": (made.replace(packed, packed[:50] + ("A" if packed[50] != "A" else "B") + packed[51:]), self.DAMAGED, parts("the scenario")),
+            "letters": (made.replace(packed, packed[:50] + "!" + packed[51:]), self.DAMAGED, parts("the scenario")),
+            "digit": (made.replace("them: 17.557 %", "them: 97.557 %"), self.DAMAGED, parts("the plan as text")),
+            "flipped": (embedded(made, "program", turned(program, len(program) // 2, 3)), self.DAMAGED, parts("the program")),
+            "comment": (embedded(made, "scenario", b"# another title\n" + scenario), self.DAMAGED, parts("the scenario")),
+            "known": (embedded(made, "known", b"{}"), self.DAMAGED, parts("what is known besides")),
+        }
+
+    def test_tampering(self):
+        """Nothing green, no chance in the head and no map where the page isn't as it was made, or its script doesn't run; what can be told is told
+        in red. Of a page that is forged as a whole, a changed comment is told by the scenario's checksum, and not to be covered by any proof."""
+        made, other = self.page(*self.files("drifting-grid")), b"# another title\n" + pages.example("drifting-grid")[0]
+        cases = self.tampered(made)
+        for name, (text, _, _) in cases.items():
+            self.assertNotEqual(text, made, name)
+        texts = {f"tampered-{name}": text for name, (text, _, _) in cases.items()}
+        seen = self.visit({**texts, "tampered-no": made, "tampered-title": forged(made, "scenario", other)})
+        for name, (_, said, by) in cases.items():
+            with self.subTest(name):
+                self.is_unchecked(seen[f"tampered-{name}"], said, by)
+        for name, scenario in (("no", pages.example("drifting-grid")[0]), ("title", other)):
+            it = seen[f"tampered-{name}"]
+            self.assertEqual((it["said"], it["colours"], it["console"]), ("Accepted: no path is better.", [self.GOOD] * 2, []))
+            self.assertIn(f"SHA-256 of the scenario\n{carried.sum_of(scenario)}", it["body"])
+            self.assertEqual(it["body"].count("Titles, times and places come from comments of the scenario, which no proof covers."), 1)
+
+    def is_unchecked(self, it, said, by):
+        """A page that says so, and shows no more than its title and the plan as text."""
+        self.assertEqual((it["said"], it["maps"]), (said, 0))
+        self.assertIn(by, it["by"])
+        self.assertTrue(it["text"].startswith("SEARCH PLAN drifting-grid.scenario\nNot checked yet.\nChance to find them: "))
+        self.assertTrue(it["body"].startswith("Search plan drifting-grid.scenario\n"))
+        self.assertNotIn("%", it["head"])
+        self.assertNotIn("Accepted", it["body"])
+        self.assertEqual((self.GOOD in it["colours"], self.WRONG in it["colours"]), (False, said == self.DAMAGED))
 
     def visit(self, made):
         return super().visit("web_in_browser.py", made)
@@ -349,8 +420,8 @@ class InBrowser:
             "lacking": ("Rejected: line 8 of the plan, MissingChild.", None),
             "unread": ("Not accepted: bad plan: line 4 BadLine.", None),
             "scenario": ("Not accepted: bad scenario: line 1 BadLine.", None),
-            "broken": ("Accepted: no path is better.", "Not checked here: the browser stopped it ("),
-            "without": ("Accepted: no path is better.", "Not checked here: this browser runs no WebAssembly. When this page was made: Checked by the proved program."),
+            "broken": (self.NOT_YET, "Nothing is checked here: the browser stopped it ("),
+            "without": (self.NOT_YET, "Nothing is checked here: this browser runs no WebAssembly."),
         }
         for name, (said, by) in wanted.items():
             for screen in ("desktop", "tablet"):
@@ -361,8 +432,15 @@ class InBrowser:
                         self.assertRegex(told["by"], self.HERE)
                     else:
                         self.assertTrue(told["by"].startswith(by), told["by"])
-                        self.assertTrue(told["by"].endswith("When this page was made: Checked by the proved program."), told["by"])
-                    self.assertIn(carried.sum_of(pages.read(web.MODULE)), told["worth"])
+                    is_good = said.startswith("Accepted")
+                    self.assertEqual(told["colours"].count(self.GOOD), 2 * is_good)
+                    self.assertEqual(told["colours"].count(self.WRONG), 2 * (said.startswith(("Rejected", "Not accepted"))))
+                    self.assertEqual((told["maps"] > 0) * is_good, told["maps"] > 0)
+                    if is_good:
+                        self.assertIn(carried.sum_of(pages.read(web.MODULE)), told["worth"])
+                    else:
+                        self.assertNotIn("Accepted", told["body"])
+                        self.assertNotIn("%", told["head"])
             self.assertEqual(seen[name]["console"], [], name)
             self.assertEqual([it for it in seen[name]["asked"] if not it.startswith(("file://", "blob:null/"))], [], name)
 

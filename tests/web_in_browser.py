@@ -1,8 +1,9 @@
 """Opens pages that check themselves in a browser without a window, and writes what they say as JSON to standard output.
 
 It is run by /usr/bin/python3: web_in_browser.py chromium|firefox FOLDER PAGE.html ... The folder takes the pictures, on a desktop and on a
-tablet. From a page whose name begins with "without" WebAssembly is taken away first; in one whose name begins with "osp" scenarios are
-planned, and of one whose name begins with "shown" it is said what it shows. It ends as in_browser.py does where there is no browser.
+tablet. One whose name begins with "tampered" is opened once, without a picture; from one whose name begins with "without" WebAssembly is
+taken away first; in one whose name begins with "osp" scenarios are planned, and of one whose name begins with "shown" it is said what it
+shows. It ends as in_browser.py does where there is no browser.
 """
 import json
 import os
@@ -46,7 +47,7 @@ def drawn(visit):
     """What a page shows below its head, as markup, and how the map that is to be seen is drawn: of each of its elements what the style says."""
     return visit.run(
         """
-        const shown = document.querySelector(".shown");
+        const shown = document.querySelector("#planner-shown, #shown");
         const map = shown.querySelector(".frame:not([hidden]) svg.map");
         const told = (it) => ["fill", "stroke", "strokeWidth", "fontSize", "width", "height", "display"].map((key) => getComputedStyle(it)[key]);
         return { markup: shown.innerHTML, styles: map && [...map.querySelectorAll("*")].map((it) => [it.tagName, ...told(it)]) };"""
@@ -147,8 +148,17 @@ def shown(seen_by, page, folder):
     return drawn(visit) | visit.browser.logs()
 
 
+def tampered(seen_by, page, folder):
+    """What a page says, at a tablet's width."""
+    visit = Visit(seen_by, page, folder)
+    visit.open(TABLET)
+    return settled(visit) | visit.browser.logs()
+
+
 def opened(seen_by, page, folder):
     """The same for a page from which WebAssembly may be taken away."""
+    if os.path.basename(page).startswith("tampered"):
+        return tampered(seen_by, page, folder)
     if os.path.basename(page).startswith("osp"):
         return in_planner(seen_by, page, folder)
     if os.path.basename(page).startswith("shown"):
