@@ -34,10 +34,12 @@ const onscene = (function () {
     return flown.length >= newest.flown && flown.every((it, look) => it === newest.path[look]);
   }
 
-  // Says by the head of what plan the page is. It is green where that is one of what is marked.
+  // Says by the head of what plan the page is. It is green where that is one of what is marked; else its chance and its words for the radio
+  // are struck out.
   function head() {
     const { value, weight } = first.search;
-    document.getElementById("head").className = fits() ? "verdict good" : "verdict";
+    document.getElementById("head").className = fits() ? "verdict good" : "verdict old";
+    document.getElementById("radio").classList.toggle("old", !fits());
     at("before").textContent = newest === first ? "" : `Before: ${told.percent(value, weight)}, ${looks(first.flown)} flown.`;
     at("stale").textContent = fits() ? "" : `The plan that is shown isn't one of what is marked as flown (${looks(flown.length)}): plan the rest.`;
   }

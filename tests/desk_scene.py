@@ -272,10 +272,10 @@ class Clicks:
 
     def check_keys(self, seen, grid):
         """A mark that is taken back leaves what is shown, which isn't green: it isn't of what is marked. So is what can't be planned."""
-        self.assertEqual((seen["undone"]["flown"], seen["undone"]["good"], seen["undone"]["name"]), (["r0c1", "r0c2"], "verdict", seen["clicks"]["name"]))
+        self.assertEqual((seen["undone"]["flown"], seen["undone"]["good"], seen["undone"]["name"]), (["r0c1", "r0c2"], "verdict old", seen["clicks"]["name"]))
         self.assertEqual(seen["undone"]["stale"], "The plan that is shown isn't one of what is marked as flown (2 looks): plan the rest.")
         self.assertEqual((seen["wrong"]["flown"], seen["wrong"]["said"]), (["r0c1", "r0c2"], "r9c9 is no place to look from."))
-        self.assertEqual((seen["illegal"]["flown"], seen["refused"]["good"]), (["r0c1", "r0c2", "r6c6"], "verdict"))
+        self.assertEqual((seen["illegal"]["flown"], seen["refused"]["good"]), (["r0c1", "r0c2", "r6c6"], "verdict old"))
         why = web.native([Case(["replan", "flown", "r0c1", "r0c2", "r6c6"], grid)])[0].err.decode().strip()
         self.assertEqual((seen["refused"]["said"], seen["refused"]["name"]), (f"Nothing is planned: {why}.", seen["clicks"]["name"]))
         self.assertNotIn("onscene-next", seen["illegal"]["open"])
@@ -299,12 +299,12 @@ class Clicks:
         """While it plans nothing is marked or taken back, by clicks or by what the page itself sends; what is stopped changes nothing."""
         # (The plan begins with a stay at r0c0.)
         self.assertEqual((seen["next"]["flown"], seen["next"]["good"]), (["r0c0"], "verdict good"))
-        self.assertEqual((seen["marked"]["flown"], seen["marked"]["good"]), (["r1c0"], "verdict"))
+        self.assertEqual((seen["marked"]["flown"], seen["marked"]["good"]), (["r1c0"], "verdict old"))
         for name in ("runs", "tried"):
-            self.assertEqual((seen[name]["open"], seen[name]["flown"], seen[name]["good"]), (["onscene-stop"], ["r1c0"], "verdict"))
+            self.assertEqual((seen[name]["open"], seen[name]["flown"], seen[name]["good"]), (["onscene-stop"], ["r1c0"], "verdict old"))
             self.assertEqual(seen[name]["said"], "Planning …")
         stopped = seen["stopped"]
-        self.assertEqual((stopped["said"], stopped["flown"], stopped["good"], stopped["name"]), ("Nothing is planned: it was stopped.", ["r1c0"], "verdict", "slow.scenario"))
+        self.assertEqual((stopped["said"], stopped["flown"], stopped["good"], stopped["name"]), ("Nothing is planned: it was stopped.", ["r1c0"], "verdict old", "slow.scenario"))
 
     def check_kept(self, seen, slow):
         """What is planned behind a mark leads, until the page is loaded anew, which has the mark still, and isn't green for it."""
@@ -314,7 +314,7 @@ class Clicks:
         self.assertEqual((planned["good"], planned["name"], planned["maps"]), ("verdict good", "slow-scenario-flown-1.made", ["after-1"]))
         self.assertEqual(planned["before"], f"Before: {first['chance'].split()[0]} %, no look flown.")
         again = seen["again"]
-        self.assertEqual((again["flown"], again["good"], again["name"], again["chance"]), (["r1c0"], "verdict", "slow.scenario", first["chance"]))
+        self.assertEqual((again["flown"], again["good"], again["name"], again["chance"]), (["r1c0"], "verdict old", "slow.scenario", first["chance"]))
         self.assertEqual(again["stale"], "The plan that is shown isn't one of what is marked as flown (1 look): plan the rest.")
         self.assertEqual(again["said"], "This browser kept the marks that were made here: 1 look flown.")
         self.assertEqual((seen["replanned"]["good"], seen["replanned"]["name"]), ("verdict good", "slow-scenario-flown-1.made"))
