@@ -67,10 +67,6 @@ class Search:
         """The squares by which the search is told."""
         return squares.squares(self.seats.of)
 
-    def where(self, frame):
-        """Where the searchers are in a frame, in words."""
-        return self.seats.where(frame.position, frame.period)
-
 
 def shown(name):
     """A file name as text that can be printed: what isn't UTF-8 or is a control character becomes a replacement mark."""

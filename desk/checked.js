@@ -5,14 +5,21 @@ const checked = (function () {
   const { filled } = markup;
   const at = (id) => document.getElementById(id);
 
-  // What is said in place of a verdict, and by whom, or why; in red where something is wrong.
-  function say(said, by, isWrong) {
-    at("head").className = isWrong ? "verdict refused" : "verdict";
+  // What is said in place of a verdict, and by whom, or why.
+  function say(said, by) {
+    at("head").className = "verdict";
     at("head").innerHTML = filled("told_verdict", { said: markup.escaped(said), by: markup.escaped(by) });
   }
 
   function unchecked(why) {
-    say(filled("unchecked", {}), `Nothing is checked here: ${why}.`, false);
+    say(filled("unchecked", {}), `Nothing is checked here: ${why}.`);
+  }
+
+  // What is wrong is said in red, and the plan as text goes: nobody should fly it.
+  function warn(said, by) {
+    say(said, by);
+    at("head").className = "verdict refused";
+    at("shown").innerHTML = "";
   }
 
   // What the program wrote of a plan that it doesn't accept.
@@ -20,9 +27,9 @@ const checked = (function () {
     const text = (answer.out || answer.err).trim();
     const here = filled("checked_here", { seconds: answer.seconds.toFixed(2) });
     if (answer.status === REJECTED) {
-      say(`Rejected: ${text.replace(/^rejected (\d+) /, "line $1 of the plan, ")}.`, here, true);
+      warn(`Rejected: ${text.replace(/^rejected (\d+) /, "line $1 of the plan, ")}.`, here);
     } else if (UNREAD.includes(answer.status)) {
-      say(`Not accepted: ${text}.`, here, true);
+      warn(`Not accepted: ${text}.`, here);
     } else {
       unchecked(`the program ended with status ${answer.status} (${text})`);
     }
@@ -73,7 +80,7 @@ const checked = (function () {
   async function checkedOf(sums) {
     const { found, wrong } = await parts(sums);
     if (wrong.length > 0) {
-      say(filled("damaged", {}), filled("damaged_parts", { parts: wrong.map((it) => filled(`part_${it}`, {})).join(", ") }), true);
+      warn(filled("damaged", {}), filled("damaged_parts", { parts: wrong.map((it) => filled(`part_${it}`, {})).join(", ") }));
       return;
     }
     await carried.tellSum();
@@ -89,12 +96,12 @@ const checked = (function () {
 
   // Begins, once the whole page is there: `sums` are the checksums of its parts. It is called by the last line of the page.
   async function begin(sums) {
-    const lacking = carried.lacking() || (globalThis.crypto?.subtle ? "" : "this browser makes no checksums for a page of this address: save it, and open the file");
+    const lacking = carried.lacking() || (globalThis.crypto?.subtle ? "" : filled("no_sums", {}));
     if (lacking) {
       unchecked(lacking);
       return;
     }
-    say(filled("unchecked", {}), "Being checked here …", false);
+    say(filled("unchecked", {}), "Being checked here …");
     try {
       await checkedOf(sums);
     } catch (why) {

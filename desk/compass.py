@@ -35,8 +35,8 @@ def corners(box):
 
 
 def nodes(box, frame):
-    """Where the nodes of a mesh over a box lie on the earth, row by row: the rows and columns of its lines, and pairs of longitudes that go on
-    beyond half a turn, and latitudes."""
+    """Where the nodes of a mesh over a box lie on the earth, row by row: into how many parts each side is cut, and pairs of a longitude, which
+    goes on beyond half a turn, and a latitude."""
     latitude = max((frame.to_earth(*it)[0] for it in corners(box)), key=abs)
     count = min(geojson.pieces(max(box[2:]), latitude), MOST_NODES)
     found = []
@@ -48,8 +48,8 @@ def nodes(box, frame):
 
 
 def mesh(search, frame):
-    """What a page has to know of where on the earth its map is, by a desk.earth.Frame, which may be None: the box and the nodes of a mesh over
-    the map, the corner of the area as it is told, and the true bearing of up. None where no map in metres is drawn."""
+    """What a page has to know of where on the earth its map is, by a desk.earth.Frame, which may be None: the box and the nodes of a mesh
+    over the map, the corner of the area as it is told, and the true bearing of up. None where no map in metres is drawn."""
     try:
         laid = frame and layout.layout(search.seats.of, search.told_by)
     except layout.NoPlaces:

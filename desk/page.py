@@ -41,7 +41,7 @@ def numbers_of(module):
 
 def rules():
     """What a script draws and says by, as text of it: the markup, and limits, patterns and heads of the helpers' own modules."""
-    patterns = {"at": layout.AT, "of_square": states.OF_SQUARE, "row_and_column": squares.ROW_AND_COLUMN, "times": comments.TIMES, "earth": earth.LINE}
+    patterns = {"at": layout.AT, "earth": earth.LINE, "times": comments.TIMES, "of_square": states.OF_SQUARE, "row_and_column": squares.ROW_AND_COLUMN}
     told = {"layout": numbers_of(layout), "limits": numbers_of(limits)}
     told["patterns"] = {**{name: it.pattern.decode("ascii") for name, it in patterns.items()}, "moment": moments.SPELLED.pattern}
     told["heads"] = {"at_head": layout.HEAD.decode("ascii"), "earth_head": earth.HEAD.decode("ascii")}
@@ -49,7 +49,8 @@ def rules():
 
 
 def times_of(told, given):
-    """The minutes of periods and the begin of the first one, as texts, where words give them; else None: the scenario's comments say them."""
+    """The minutes of periods and the begin of the first one, as texts, where words give them; else None, since comments of the scenario that
+    say them are read by the page itself."""
     return [decimal(told.times.minutes), told.times.clock.told(0)] if given else None
 
 
@@ -82,15 +83,17 @@ def parts(search, told, given, module, text):
     """The Parts of a search's page: the module, the scenario, the plan, the scenario that it was made of, if that is given, and what its
     script has to know besides."""
     of = {} if search.told_by is search.text else {"of": search.told_by}
-    return Parts({"program": module, "scenario": search.text, "plan": search.plan, **of, "known": known(search, told, given), **onscene.carried(search)}, text)
+    own = {"program": module, "scenario": search.text, "plan": search.plan, **of, "known": known(search, told, given)}
+    return Parts({**own, **onscene.carried(search)}, text)
 
 
 def head(search, why, more=""):
     """The head of a page of which nothing is checked yet; `more` stands behind what is said of the plan."""
+    said = filled("told_verdict", said=filled("unchecked"), by=escape(why))
     return (
-        f'<header><h1>Search plan <bdi>{escape(search.name)}</bdi></h1>'
-        f'<div id="head" class="verdict" role="status">{filled("told_verdict", said=filled("unchecked"), by=escape(why))}</div>{more}'
-        f'<p class="note">{filled("uncovered")}</p><p class="note worth" id="worth" hidden>{filled("worth", sum="")}</p><div id="notes"></div></header>'
+        f'<header><h1>Search plan <bdi>{escape(search.name)}</bdi></h1><div id="head" class="verdict" role="status">{said}</div>{more}'
+        f'<p class="note">{filled("uncovered")}</p><p class="note worth" id="worth" hidden>{filled("worth", sum="")}</p>'
+        '<div id="notes"></div></header>'
     )
 
 
@@ -101,7 +104,8 @@ def main(text):
 
 def words():
     """Where the words for the radio come."""
-    return '<section class="radio" id="radio" hidden><h2>For the radio</h2><div class="scroll"><pre id="radio-text"></pre></div></section>\n'
+    text = '<div class="scroll"><pre id="radio-text"></pre></div>'
+    return f'<section class="radio" id="radio" hidden><h2>For the radio</h2>{text}</section>\n'
 
 
 def policy_of(styles, scripts):
@@ -140,7 +144,6 @@ def document(search, told, given, module=None):
     its = parts(search, told, given, module, text)
     styles = ["".join(map(asset, STYLES)), *(asset(f"{it}.css") for it in OTHERS)]
     scripts = [rules() + carried.script(*PARTS), f"checked.begin({json.dumps(its.sums())});"]
-    return (
-        f"{front(title, styles, policy_of(styles, scripts))}{head(search, filled('by_script'), onscene.lines())}\n{main(text)}\n{words()}{onscene.section(search)}"
-        f"{carried.templates(its.carried)}<script>{scripts[0]}</script>\n<script>{scripts[1]}</script>\n"
-    )
+    seen = f"{head(search, filled('by_script'), onscene.lines())}\n{main(text)}\n{words()}{onscene.section(search)}"
+    behind = "".join(f"<script>{it}</script>\n" for it in scripts)
+    return f"{front(title, styles, policy_of(styles, scripts))}{seen}{carried.templates(its.carried)}{behind}"

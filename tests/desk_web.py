@@ -346,13 +346,13 @@ class InBrowser:
         }
 
     # What stands in a page of which nothing is checked, and in one that was changed; and the colours of what is accepted, and of what is wrong.
-    NOT_YET, DAMAGED = "Not checked yet", "This page is damaged, and nothing of it is shown"
+    NOT_YET, DAMAGED = "Not checked yet", "This page is damaged: do not fly by it"
     GOOD, WRONG = "rgb(16, 96, 59)", "rgb(163, 21, 31)"
 
     def tampered(self, made):
         """Changes of a page that somebody made or a line lost, by name: what the page says then, and what stands beside that."""
         stays, scenario = "Where these words stay, the browser runs no script, or a part of the page is missing.", pages.example("drifting-grid")[0]
-        parts = lambda name: f"not as they were are {name}."
+        parts = lambda name: f"Changed since it was made: {name}."
         main = re.search(r"script-src '(sha256-[^']+)'", made)[1]
         program = pages.read(web.MODULE)
         packed = re.search('<template id="carried-scenario">([^<]*)', made)[1]
@@ -393,10 +393,11 @@ class InBrowser:
             self.assertEqual(it["body"].count("Titles, times and places come from comments of the scenario, which no proof covers."), 1)
 
     def is_unchecked(self, it, said, by):
-        """A page that says so, and shows no more than its title and the plan as text."""
+        """A page that says so, and shows no more than its title, and, where it isn't known to be wrong, the plan as text."""
         self.assertEqual((it["said"], it["maps"]), (said, 0))
         self.assertIn(by, it["by"])
-        self.assertTrue(it["text"].startswith("SEARCH PLAN drifting-grid.scenario\nNot checked yet.\nChance to find them: "))
+        begins = "SEARCH PLAN drifting-grid.scenario\nNot checked yet.\nChance to find them: 17.557 %, 8 looks, from r0c0\n"
+        self.assertEqual(it["text"] and it["text"][: len(begins)], None if said == self.DAMAGED else begins)
         self.assertTrue(it["body"].startswith("Search plan drifting-grid.scenario\n"))
         self.assertNotIn("%", it["head"])
         self.assertNotIn("Accepted", it["body"])
@@ -441,6 +442,7 @@ class InBrowser:
                     else:
                         self.assertNotIn("Accepted", told["body"])
                         self.assertNotIn("%", told["head"])
+                        self.assertEqual(told["text"] is not None, said == self.NOT_YET)
             self.assertEqual(seen[name]["console"], [], name)
             self.assertEqual([it for it in seen[name]["asked"] if not it.startswith(("file://", "blob:null/"))], [], name)
 

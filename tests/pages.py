@@ -100,20 +100,6 @@ class Room(unittest.TestCase):
         out.seek(0)
         return status, out.read(), err.getvalue()
 
-
-class Drawing(Room):
-    """A test of what the script of pages draws, in node. Their program is the one that the test asks, and a stand-in for its module is carried."""
-
-    MODULE = b"the module"
-
-    def setUp(self):
-        super().setUp()
-        if not web.NODE:
-            self.skipTest("node isn't installed (Debian's package nodejs)")
-        patch = mock.patch.object(carried, "module", lambda search: self.MODULE)
-        patch.start()
-        self.addCleanup(patch.stop)
-
     def written(self, *words, said=""):
         """The page that `show` writes of these words, which says no more than this on standard error."""
         status, out, err = self.run_helper(show.main, words)
@@ -140,6 +126,20 @@ class Drawing(Room):
     def shown(self, *words):
         """The tree of the page that `show` writes of these words, with what its script draws."""
         return self.drawn(self.written(*words))[0]
+
+
+class Drawing(Room):
+    """A test of what the script of pages draws, in node. Their program is the one that the test asks, and a stand-in for its module is carried."""
+
+    MODULE = b"the module"
+
+    def setUp(self):
+        super().setUp()
+        if not web.NODE:
+            self.skipTest("node isn't installed (Debian's package nodejs)")
+        patch = mock.patch.object(carried, "module", lambda search: self.MODULE)
+        patch.start()
+        self.addCleanup(patch.stop)
 
 
 class Refusing(Room):
