@@ -46,25 +46,25 @@ const checked = (function () {
     return { found, wrong };
   }
 
-  // Asks the program for the verdict, and for the masses behind each look of an accepted plan: all that is shown of it.
-  async function asked({ scenario, plan, of, known }) {
+  // Asks the program, by `ask`, for the verdict on the plan of a scenario (bytes), and for the masses behind each look of an accepted plan: all
+  // that is shown of it. `more` is what shown.search takes besides.
+  async function asked([scenario, plan], more, ask) {
     const both = carried.joined(scenario, plan);
     const [own, behind] = reading.parts(both);
     const word = new TextDecoder().decode(behind.subarray(0, 4)) === "gap " ? "checkgap" : "check";
-    const answer = await carried.ask([word], both);
+    const answer = await ask([word], both);
     if (answer.status !== ACCEPTED || answer.out !== "accepted\n") {
       return { answer };
     }
-    const map = await carried.ask(["map", "flown", ...reading.plan(behind).path], reading.bare(own));
+    const map = await ask(["map", "flown", ...reading.plan(behind).path], reading.bare(own));
     if (map.status !== ACCEPTED) {
       return { answer: map };
     }
-    const more = JSON.parse(new TextDecoder().decode(known));
-    return { answer, search: await shown.search(scenario, behind, map.out, { ...more, of }) };
+    return { answer, search: await shown.search(scenario, behind, map.out, more) };
   }
 
   // Shows an accepted plan, and no part of it where one can't be drawn.
-  function show(answer, search) {
+  function show({ answer, search }) {
     const [drawing, head] = [shown.main(search), shown.head(search, filled("checked_here", { seconds: answer.seconds.toFixed(2) }))];
     const text = radio.text(search.radio, radio.of(search));
     shown.put(at("shown"), search, drawing);
@@ -74,7 +74,6 @@ const checked = (function () {
     at("head").className = "verdict good";
     at("head").innerHTML = head.verdict;
     [maps, drifts, where].forEach((it) => it.begin());
-    return drawing.drawn;
   }
 
   // Checks what the page carries, by the checksums of its parts, and shows what came of it. Nothing is shown of what isn't whole.
@@ -85,13 +84,14 @@ const checked = (function () {
       return;
     }
     await carried.tellSum();
-    const { answer, search } = await asked(found);
-    if (search === undefined) {
-      refuse(answer);
+    const known = JSON.parse(new TextDecoder().decode(found.known));
+    const plan = await asked([found.scenario, found.plan], { ...known, of: found.of }, carried.ask);
+    if (plan.search === undefined) {
+      refuse(plan.answer);
       return;
     }
-    const drawn = show(answer, search);
-    await onscene.begin(search, drawn).catch((why) => onscene.lacks(why));
+    show(plan);
+    await onscene.begin(plan, found).catch((why) => onscene.lacks(why));
   }
 
   // Begins, once the whole page is there: `sums` are the checksums of its parts. It is called by the last line of the page.
@@ -109,5 +109,5 @@ const checked = (function () {
     }
   }
 
-  return { begin };
+  return { begin, asked, show };
 }());

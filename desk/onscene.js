@@ -1,26 +1,27 @@
-// On scene the searcher is not where the plan says: what was flown is marked, and the program plans the rest. It begins behind a search of
-// desk/shown.js and its picture, or null, which the page shows.
-const onscene = { async begin(own, drawn) {
-  const part = document.getElementById("onscene");
-  if (document.getElementById("carried-scene") === null) {
-    part.hidden = false;
-    return;
-  }
-  const [NO_LETTER, BEHIND, TOO_MANY] = [/[^0-9a-z]/gi, "\nend\n", 8];
+// On scene the searcher is not where the plan says: what was flown is marked, and the program plans the rest. The newest accepted plan leads:
+// all that the page shows is of it, and one line has the chance of the plan that the page came with.
+const onscene = (function () {
+  const [NO_LETTER, TOO_MANY] = [/[^0-9a-z]/gi, 8];
   const [encoder, decoder] = [new TextEncoder(), new TextDecoder()];
-  // What desk/onscene.py says of the search, and what is drawn of it: positions and places stand by their numbers.
-  const scene = { ...JSON.parse(decoder.decode(await carried.unpacked("scene"))), ...shown.drawing(own, drawn), radio: own.radio };
-  const [horizon, count] = [scene.path.length, scene.start.length];
-  const positions = new Map(scene.at.map((places, position) => [String(places), position]));
+  const part = document.getElementById("onscene");
   const at = (id) => document.getElementById(`onscene-${id}`);
-  const fields = part.querySelectorAll(".onscene-name");
-  // The positions of the looks that are marked as flown; and of the next look the places that are known.
-  let flown = scene.path.slice(0, scene.flown);
-  let places = [];
+  // What the page carries, as bytes by name; what desk/onscene.py says of the search, positions and places standing by their numbers; by the
+  // places of a look its position.
+  let [parts, scene, positions] = [null, null, null];
+  // The plan that the page came with, and the newest that was accepted, which the page shows: what checked.js says of it, its path as positions,
+  // how many looks of it are flown, and of the newest the bytes that are saved.
+  let [first, newest] = [null, null];
+  // The positions of the looks that are marked as flown; of the next look the places that are known; and what is planned now, or null.
+  let [flown, places, running] = [[], [], null];
 
   function say(text, isWrong) {
     at("said").textContent = text;
     at("said").classList.toggle("wrong", Boolean(isWrong));
+  }
+
+  // So many looks, in words.
+  function looks(count) {
+    return count === 0 ? "no look" : markup.plural(count, "look");
   }
 
   // The names of a position's places, in words.
@@ -28,20 +29,54 @@ const onscene = { async begin(own, drawn) {
     return scene.at[position].map((it) => scene.places[it]).join(" and ");
   }
 
-  // Shows what is marked as flown; what was planned for other looks is taken away.
+  // Whether the plan that is shown begins as marked, and has no other looks as flown.
+  function fits() {
+    return flown.length >= newest.flown && flown.every((it, look) => it === newest.path[look]);
+  }
+
+  // Says by the head of what plan the page is. It is green where that is one of what is marked; else its chance and its words for the radio
+  // are struck out.
+  function head() {
+    const { value, weight } = first.search;
+    document.getElementById("head").className = fits() ? "verdict good" : "verdict old";
+    document.getElementById("radio").classList.toggle("old", !fits());
+    at("before").textContent = newest === first ? "" : `Before: ${told.percent(value, weight)}, ${looks(first.flown)} flown.`;
+    at("stale").textContent = fits() ? "" : `The plan that is shown isn't one of what is marked as flown (${looks(flown.length)}): plan the rest.`;
+  }
+
+  // Shows what is marked as flown, and what can be done; and has the browser keep the marks.
   function show() {
     places = [];
-    at("found").hidden = true;
+    marks.keep(flown, flown.length - scene.flown);
     at("flown").replaceChildren(...flown.map((it) => told.element("li", named(it))));
     at("none").hidden = flown.length > 0;
-    at("undo").disabled = at("clear").disabled = flown.length === scene.flown;
-    at("plan").disabled = flown.length === 0;
-    at("next").disabled = flown.length === horizon;
+    at("lost").hidden = marks.areSafe();
+    part.querySelectorAll("button:not(#onscene-stop), input").forEach((it) => { it.disabled = running !== null; });
+    at("stop").hidden = running === null;
+    if (running === null) {
+      at("undo").disabled = at("clear").disabled = flown.length === scene.flown;
+      at("plan").disabled = flown.length === 0;
+      at("next").disabled = flown.length === scene.path.length || !fits();
+    }
+    head();
+  }
+
+  // Lets the whole page show a plan, and of its maps the one behind the last look that is flown.
+  function lead(plan) {
+    newest = plan;
+    checked.show(plan);
+    document.querySelector("h1 bdi").textContent = plan.search.name;
+    document.title = markup.filled("title", { name: plan.search.name });
+    maps.begin(plan.flown);
+    at("found").hidden = plan === first;
+    if (plan !== first) {
+      told.save(at("save"), plan.bytes, plan.search.name);
+    }
   }
 
   function add(position) {
-    if (flown.length === horizon) {
-      say(`The plan has ${horizon} looks, and all are flown.`, true);
+    if (flown.length === scene.path.length) {
+      say(`The plan has ${scene.path.length} looks, and all are flown.`, true);
     } else {
       flown.push(position);
       say(`Look ${flown.length} was from ${named(position)}.`);
@@ -57,7 +92,7 @@ const onscene = { async begin(own, drawn) {
       return false;
     }
     places.push(place);
-    if (places.length === count) {
+    if (places.length === scene.start.length) {
       add(positions.get(String(places)));
     } else {
       say(`The first searcher looked from ${name}; now the place of the second one.`);
@@ -68,165 +103,179 @@ const onscene = { async begin(own, drawn) {
   // The place to look from that a square of a map, or a part of one, stands for.
   function place(square) {
     const cell = square.querySelector("title").textContent.split(": ")[0];
-    const [name] = scene.squares.find((it) => it[1].includes(cell)) ?? [cell];
-    return scene.places.includes(cell) ? cell : name;
+    const { squares, sc } = first.search;
+    const own = squares.filled.find((it) => squares.cells[it].some((one) => sc.names[one] === cell));
+    return scene.places.includes(cell) || own === undefined ? cell : squares.names[own];
   }
 
   function mark(event) {
-    const square = event.target.closest(".cells rect");
-    if (square !== null && at("mark").getAttribute("aria-pressed") === "true") {
+    const square = event.target.closest(".figures .cells rect");
+    if (running === null && square !== null && at("mark").getAttribute("aria-pressed") === "true") {
       take(place(square));
     }
   }
 
   function written(event) {
+    const fields = Array.from(part.querySelectorAll(".onscene-name"));
     event.preventDefault();
-    places = [];
-    if (Array.from(fields).every((it) => take(it.value.trim()))) {
-      fields[0].focus();
+    if (running === null) {
+      places = [];
+      if (fields.every((it) => take(it.value.trim()))) {
+        fields[0].focus();
+      }
+      fields.forEach((it) => { it.value = ""; });
     }
-    fields.forEach((it) => { it.value = ""; });
   }
 
-  // The text of a scenario that forces a whole path, as one that forces its first looks alone: behind them it goes on as from their last one.
-  function shortened(text, looks, last) {
-    const lines = text.split("\n").map((it) => it.split(" "));
-    const onward = lines.find((it) => it[0] === "moves" && it[1] === last).slice(2);
-    const owner = (it) => ({ position: it[1], moves: it[1], look: it[1], lookin: it[2] })[it[0]] ?? "";
-    const isLater = (it) => /^flown-\d+$/.test(owner(it)) && Number(owner(it).slice("flown-".length)) > looks;
-    const kept = lines.filter((it) => !isLater(it)).map((it) => (it[0] === "moves" && it[1] === `flown-${looks}` ? [...it.slice(0, 2), ...onward] : it));
-    return kept.map((it) => it.join(" ")).join("\n");
+  // What the program answers, unless it is stopped.
+  async function ask(words, input) {
+    const mine = running;
+    const answer = await carried.ask(words, input);
+    if (mine.isStopped) {
+      throw new Error("it was stopped");
+    }
+    return answer;
   }
 
-  // A path with a ceiling, behind the scenario that forces what was flown. The program writes such a scenario with its plan alone, which has
-  // few records where all looks are forced: so it is asked for that one, and the looks to come are taken out of it.
-  async function gapped(base, most) {
-    const whole = [...flown];
-    while (whole.length < horizon) {
-      whole.push(scene.onward[whole[whole.length - 1]]);
+  function stop() {
+    if (running !== null) {
+      running.isStopped = true;
+      carried.stop();
     }
-    const forced = await carried.ask(["replan", "--workers", "1", "flown", ...whole.map((it) => scene.positions[it])], base);
-    if (forced.status !== 0) {
-      return forced;
-    }
-    const text = forced.out.slice(0, forced.out.indexOf(BEHIND) + BEHIND.length);
-    const own = encoder.encode(shortened(text, flown.length, scene.positions[flown[flown.length - 1]]));
-    const made = await carried.ask(["gap", "--workers", "1", "--nodes", String(Math.min(most, scene.gap))], own);
-    return made.status === 0 ? { ...made, bytes: carried.joined(own, made.bytes), out: decoder.decode(own) + made.out } : made;
   }
 
-  // The scenario with its plan, or gap plan, for what is flown.
-  async function planned(base) {
-    const most = Number(at("most").value);
-    const names = flown.map((it) => scene.positions[it]);
-    const made = await carried.ask(["replan", "--workers", "1", "--nodes", String(most), "flown", ...names], base);
+  // The words of positions that are flown.
+  function words(path) {
+    return ["flown", ...path.map((it) => scene.positions[it])];
+  }
+
+  // The scenario that forces the looks that are flown with its plan behind it; where the records run out, with a path with a ceiling. Of that
+  // the program doesn't write the scenario, which forces these looks and no others.
+  async function planned(base, most) {
+    const made = await ask(["replan", "--workers", "1", "--nodes", String(most), ...words(flown)], base);
     if (made.status !== TOO_MANY) {
       return made;
     }
     say("Too many records are needed: a path with a ceiling is made …");
-    return gapped(base, most);
+    const own = encoder.encode(forced.text(base, flown));
+    const gap = await ask(["gap", "--workers", "1", "--nodes", String(Math.min(most, scene.gap))], own);
+    return gap.status === 0 ? { ...gap, bytes: carried.joined(own, gap.bytes) } : gap;
   }
 
-  // The checksum of bytes, in hexadecimal.
-  async function sumOf(bytes) {
-    const sum = new Uint8Array(await crypto.subtle.digest("SHA-256", bytes));
-    return Array.from(sum, (it) => it.toString(16).padStart(2, "0")).join("");
-  }
-
-  // What is known of an accepted plan: its numbers, its path, what its looks find, and the masses behind each. Throws where they don't agree.
-  async function understood(made, base) {
-    const behind = made.out.indexOf(BEHIND) + BEHIND.length;
-    const plan = made.out.slice(behind);
-    const [value, whole] = told.chance(plan);
-    const [, ceiling] = plan.match(/^ceiling (\d+)$/m) ?? [];
-    const names = plan.match(/^path (.*)$/m)[1].split(" ");
-    const path = names.map((it, index) => flown[index] ?? scene.positions.indexOf(it));
-    const looks = told.looks((await carried.ask(["map", "flown", ...path.map((it) => scene.positions[it])], base)).out).map((it) => it.left);
-    const found = looks.map((it) => whole - told.sum(it));
-    if (found[horizon - 1] !== value) {
+  // Throws where the looks of a path don't leave in the scenario of the page what they leave in the one that was planned.
+  async function held(base, path, { sc, frames }) {
+    const left = told.looks((await ask(["map", ...words(path)], base)).out).map((it) => it.left);
+    if (left.length !== path.length || left.some((it, look) => sc.names.some((name, cell) => it.get(name) !== frames[look + 1].left[cell]))) {
       throw new Error("the masses of the map aren't those of the plan");
     }
-    const sum = await sumOf(made.bytes.subarray(0, behind));
-    return { value, whole, ceiling: ceiling === undefined ? null : BigInt(ceiling), path, looks, found, sum };
   }
 
-  // The words for the radio.
-  function brief(file, search, way) {
-    const squares = recoloured.squares(scene.squares, search.looks[horizon - 1]);
-    return radio.text(scene.radio, { ...search, name: file, flown: flown.length, path: way, places: scene.places, squares });
+  // Who looked from where, as it is marked: where several places look alike, the plan can't say it.
+  function seat({ sc, seats }) {
+    const begin = sc.positions.length - flown.length - 1;
+    [scene.start, ...flown.map((it) => scene.at[it])].forEach((its, look) => {
+      seats.sources[begin + look] = its;
+      seats.names[begin + look] = its.map((it) => scene.places[it]);
+    });
   }
 
-  // Shows an accepted plan.
-  async function tell(made, checked, base) {
-    const search = await understood(made, base);
-    const { value, whole, path, found } = search;
-    const [left, way] = [search.looks[flown.length - 1], [scene.start, ...path.map((it) => scene.at[it])]];
-    const [missed, rest] = [told.sum(left), value - found[flown.length - 1]];
-    const file = `${scene.name.replace(NO_LETTER, "-")}-flown-${flown.length}.made`;
-    const now = missed === 0n ? "They are found for certain by what was flown." : `If what was flown found nothing, the rest finds them: ${told.percent(rest, missed)}.`;
-    at("verdict").textContent = `${sentences.verdict(search, { count, flown: flown.length })} Checked here, just now, by the proved program (${checked.seconds.toFixed(2)} s).`;
-    at("chance").textContent = `${told.percent(value, whole)} chance to find them, what was flown included. ${now}`;
-    at("rows").replaceChildren(...told.rows(found, path.map((it, index) => `${named(it)}${index < flown.length ? " (flown)" : ""}`), whole));
-    at("now").textContent = missed === 0n ? "" : `Likeliest now, of what is left: ${told.likeliest(recoloured.squares(scene.squares, left))}.`;
-    at("map").replaceChildren(...[recoloured.map(scene, left, whole, way, flown.length)].filter(Boolean));
-    at("radio").textContent = brief(file, search, way);
-    told.save(at("save"), made.bytes, file);
-    at("found").hidden = false;
-  }
-
-  // Plans the rest, has it checked, and shows it.
-  async function attempt() {
-    const base = await carried.unpacked(scene.base);
-    const made = await planned(base);
-    const word = made.status === 0 && made.out.includes(`${BEHIND}gap `) ? "checkgap" : "check";
-    const checked = made.status === 0 ? await carried.ask([word], made.bytes) : made;
-    if (checked.status === 0) {
-      await tell(made, checked, base);
-      say(`Planned in ${made.seconds.toFixed(2)} s.`);
-    } else {
-      say(`Nothing is planned: ${(checked.out || checked.err).trim()}.`, true);
+  // What was planned, once it is accepted: all that the page shows of it. What the page says of times, places and names holds of it, too.
+  async function accepted(made, base) {
+    const own = first.search;
+    const name = `${scene.name.replace(NO_LETTER, "-")}-flown-${flown.length}.made`;
+    const of = parts.of ?? (scene.start.length > 1 ? undefined : base);
+    const { answer, search } = await checked.asked(reading.parts(made.bytes), { of, name, earth: own.earth, radio: own.radio }, ask);
+    if (search === undefined) {
+      return { answer };
     }
+    const path = search.path.map((it, look) => flown[look] ?? scene.positions.indexOf(it));
+    await held(base, path, search);
+    seat(search);
+    return { answer, search: { ...search, clock: own.clock, lines: own.lines }, path, flown: flown.length, bytes: made.bytes };
   }
 
+  // Plans the rest, has it checked, and shows it: what is to be said then.
+  async function attempt(most) {
+    const base = parts[scene.base];
+    const made = await planned(base, most);
+    const plan = made.status === 0 ? await accepted(made, base) : { answer: made };
+    if (plan.search === undefined) {
+      return [`Nothing is planned: ${(plan.answer.out || plan.answer.err).trim()}.`, true];
+    }
+    lead(plan);
+    return [`Planned in ${made.seconds.toFixed(2)} s. The page shows this plan: ${told.percent(plan.search.value, plan.search.weight)}, ${looks(plan.flown)} flown.`, false];
+  }
+
+  // Marks are locked while it plans: the plan is one of those that stand here.
   async function plan() {
     if (!at("most").checkValidity()) {
       say(`Records are a whole number from 1 to ${at("most").max}.`, true);
       return;
     }
+    const focused = document.activeElement;
+    running = { isStopped: false };
     show();
-    at("plan").disabled = true;
-    at("stop").hidden = false;
     say("Planning …");
-    try {
-      await attempt();
-    } catch (why) {
-      say(`Nothing is planned: ${why.message}.`, true);
-    }
-    at("stop").hidden = true;
-    at("plan").disabled = flown.length === 0;
+    const [text, isWrong] = await attempt(Number(at("most").value)).catch((why) => [`Nothing is planned: ${why.message}.`, true]);
+    running = null;
+    show();
+    focused.focus({ preventScroll: true });
+    say(text, isWrong);
   }
 
-  function cleared(looks, text) {
-    flown = flown.slice(0, looks);
+  // Takes marks away. Where none is left that the page didn't come with, it shows the plan that it came with.
+  function cleared(count, text) {
+    flown = flown.slice(0, count);
+    if (count === scene.flown && newest !== first) {
+      lead(first);
+    }
     say(text);
     show();
   }
 
-  at("next").addEventListener("click", () => add(scene.path[flown.length]));
-  at("undo").addEventListener("click", () => cleared(flown.length - 1, "The last mark is taken back."));
-  at("clear").addEventListener("click", () => cleared(scene.flown, "The plan is as it was made."));
-  at("plan").addEventListener("click", plan);
-  at("stop").addEventListener("click", () => carried.stop());
-  at("mark").addEventListener("click", () => at("mark").setAttribute("aria-pressed", String(at("mark").getAttribute("aria-pressed") !== "true")));
-  at("form").addEventListener("submit", written);
-  document.querySelectorAll(".figures .map").forEach((it) => it.addEventListener("click", mark));
-  document.querySelectorAll("input[name=shares]").forEach((it) => it.addEventListener("change", () => { at("map").className = `scroll ${it.value}`; }));
-  show();
-  part.hidden = false;
-},
+  function toggle() {
+    at("mark").setAttribute("aria-pressed", String(at("mark").getAttribute("aria-pressed") !== "true"));
+  }
 
-// What is said where it can't begin.
-lacks(why) {
-  document.getElementById("onscene").hidden = false;
-  document.getElementById("onscene").replaceChildren(told.element("p", `Nothing can be planned here: ${why.message}.`, "note"));
-} };
+  function listen() {
+    at("next").addEventListener("click", () => add(newest.path[flown.length]));
+    at("undo").addEventListener("click", () => cleared(flown.length - 1, "The last mark is taken back."));
+    at("clear").addEventListener("click", () => cleared(scene.flown, "The plan is as it was made."));
+    at("plan").addEventListener("click", plan);
+    at("stop").addEventListener("click", stop);
+    at("mark").addEventListener("click", toggle);
+    at("form").addEventListener("submit", written);
+    document.getElementById("shown").addEventListener("click", mark);
+  }
+
+  // The marks that the browser has kept of this plan, if they are some.
+  async function kept() {
+    const found = await marks.begin(carried.joined(parts.scenario, parts.plan));
+    const isOf = found.every((it) => scene.at[it] !== undefined) && first.path.slice(0, first.flown).every((it, look) => it === found[look]);
+    return isOf && found.length > first.flown && found.length <= scene.path.length ? found : null;
+  }
+
+  // Begins behind what checked.js shows, a plan with its answer, and the parts that the page carries.
+  async function begin(shownNow, carriedNow) {
+    part.hidden = false;
+    if (carriedNow.scene === undefined) {
+      return;
+    }
+    [parts, scene] = [carriedNow, JSON.parse(decoder.decode(carriedNow.scene))];
+    positions = new Map(scene.at.map((its, position) => [String(its), position]));
+    first = newest = { ...shownNow, path: scene.path, flown: scene.flown };
+    const again = await kept();
+    flown = again ?? scene.path.slice(0, scene.flown);
+    say(again === null ? "" : `This browser kept the marks that were made here: ${looks(again.length)} flown.`);
+    listen();
+    show();
+  }
+
+  // What is said where it can't begin.
+  function lacks(why) {
+    part.hidden = false;
+    part.replaceChildren(told.element("p", `Nothing can be planned here: ${why.message}.`, "note"));
+  }
+
+  return { begin, lacks };
+}());

@@ -16,8 +16,7 @@ OF_TWO = (
 )
 JUMPED = "Where a searcher went where no move of the scenario leads, <code>osp next</code> goes on, on a machine with the program."
 UNKNOWN = "This can't be done in this page: several places look alike, and the plan doesn't say which of them were flown. With <code>--of</code> they may be told apart."
-# The heads of the table of looks, and what is said of how they stand.
-HEADS = [("Period", ""), ("Look from", ""), ("This look finds", " class=number"), ("Found so far", " class=number")]
+LOST = "This browser keeps no marks for this page: write them down before you leave it, or load it anew."
 # The most records of a plan where the page isn't told another number.
 RECORDS = 200_000
 
@@ -69,8 +68,6 @@ def carried(search):
         "at": of.places,
         "places": texts(search.seats.of.positions),
         "start": of.places[of.sc.start],
-        # (By position one of those that a move leads to: so any prefix goes on to the end.)
-        "onward": [min(of.sc.moves[it]) for it in range(len(of.sc.positions))],
         "path": of.path,
         "flown": of.flown,
         "gap": limits.MOST_GAP_RECORDS,
@@ -94,16 +91,9 @@ def form(names, count):
     return f'<form id="onscene-form">{fields}<button>Add</button></form><datalist id="onscene-names">{options}</datalist>'
 
 
-def answer():
-    """Where stands what was planned."""
-    heads = "".join(f"<th{kind}>{it}</th>" for it, kind in HEADS)
-    return (
-        '<div id="onscene-found" hidden><p id="onscene-verdict"></p><p id="onscene-chance"></p>'
-        f'<div class="scroll"><table><thead><tr>{heads}</tr></thead><tbody id="onscene-rows"></tbody></table></div>'
-        '<h3>Where they may be now</h3><p id="onscene-now"></p><div id="onscene-map" class="scroll of-all"></div>'
-        '<h3>For the radio</h3><div class="scroll"><pre id="onscene-radio"></pre></div>'
-        '<p><a id="onscene-save">Save the scenario with its plan</a>, which <code>brief</code> and <code>show</code> read</p></div>'
-    )
+def lines():
+    """What stands by the head of the page: the plan that it came with, where it shows a newer one, and whether what it shows is of what is marked."""
+    return '<p class="note before" id="onscene-before"></p><p class="stale" id="onscene-stale" role="status"></p>'
 
 
 def section(search):
@@ -119,6 +109,8 @@ def section(search):
         f'<div class="controls">{button("next", "Flown as planned")}{button("mark", "Mark on the map", pressed)}'
         f'{form(texts(search.seats.of.positions), search.seats.count)}{button("undo", "Undo")}{button("clear", "Back to the plan as made")}</div>'
         '<p id="onscene-none">No look is marked as flown.</p><ol id="onscene-flown" aria-label="Looks that were flown"></ol>'
+        f'<p class="stale" id="onscene-lost" hidden>{LOST}</p>'
         f'<div class="controls">{button("plan", "Plan the rest")}{most}{button("stop", "Stop", " hidden")}</div>'
-        f'<p id="onscene-said" role="status" aria-live="polite"></p>{answer()}</section>\n'
+        '<p id="onscene-said" role="status" aria-live="polite"></p>'
+        '<p id="onscene-found" hidden><a id="onscene-save">Save the scenario with its plan</a>, which <code>brief</code> and <code>show</code> read</p></section>\n'
     )

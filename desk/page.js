@@ -79,8 +79,8 @@ const maps = (function () {
     }
   }
 
-  // Takes the maps that stand in the page now, and shows the first.
-  function begin() {
+  // Takes the maps that stand in the page now, and shows that of a period.
+  function begin(period = 0) {
     halt();
     frames = at("period") === null ? [] : Array.from(document.querySelectorAll(".frame"));
     rows = Array.from(document.querySelectorAll("tr[data-period]"));
@@ -98,7 +98,7 @@ const maps = (function () {
         show(now());
       });
     });
-    show(0);
+    show(period);
   }
 
   document.documentElement.classList.add("script");

@@ -17,7 +17,7 @@ from desk.markup import filled
 HERE = os.path.dirname(os.path.realpath(__file__))
 # The parts of a script that shows a plan, and those of a page of a plan beside them.
 SHOWING = ["told.js", "markup.js", "sentences.js", "reading.js", "layout.js", "seats.js", "picture.js", "tables.js", "shown.js", "page.js"]
-PARTS = [*SHOWING, "drifts.js", "where.js", "radio.js", "recoloured.js", "onscene.js", "checked.js"]
+PARTS = [*SHOWING, "drifts.js", "where.js", "radio.js", "forced.js", "marks.js", "onscene.js", "checked.js"]
 # Its styles, and those that apply to some plans alone: the script says to which.
 STYLES = ["page.css", "compass.css", "drifts.css", "shown.css", "carried.css", "onscene.css"]
 OTHERS = ["states", "pair"]
@@ -87,11 +87,11 @@ def parts(search, told, given, module, text):
     return Parts({**own, **onscene.carried(search)}, text)
 
 
-def head(search, why):
-    """The head of a page of which nothing is checked yet."""
+def head(search, why, more=""):
+    """The head of a page of which nothing is checked yet; `more` stands behind what is said of the plan."""
     said = filled("told_verdict", said=filled("unchecked"), by=escape(why))
     return (
-        f'<header><h1>Search plan <bdi>{escape(search.name)}</bdi></h1><div id="head" class="verdict" role="status">{said}</div>'
+        f'<header><h1>Search plan <bdi>{escape(search.name)}</bdi></h1><div id="head" class="verdict" role="status">{said}</div>{more}'
         f'<p class="note">{filled("uncovered")}</p><p class="note worth" id="worth" hidden>{filled("worth", sum="")}</p>'
         '<div id="notes"></div></header>'
     )
@@ -144,6 +144,6 @@ def document(search, told, given, module=None):
     its = parts(search, told, given, module, text)
     styles = ["".join(map(asset, STYLES)), *(asset(f"{it}.css") for it in OTHERS)]
     scripts = [rules() + carried.script(*PARTS), f"checked.begin({json.dumps(its.sums())});"]
-    seen = f"{head(search, filled('by_script'))}\n{main(text)}\n{words()}{onscene.section(search)}"
+    seen = f"{head(search, filled('by_script'), onscene.lines())}\n{main(text)}\n{words()}{onscene.section(search)}"
     behind = "".join(f"<script>{it}</script>\n" for it in scripts)
     return f"{front(title, styles, policy_of(styles, scripts))}{seen}{carried.templates(its.carried)}{behind}"

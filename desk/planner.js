@@ -3,28 +3,69 @@
   const at = (id) => document.getElementById(`planner-${id}`);
   const [ACCEPTED, BAD_SCENARIO, TOO_MANY] = [0, 3, 8];
   const MOST_OF_A_GAP = Number(at("part").dataset.gap);
+  // What a scenario is called that was written in the box: it is no file's.
+  const [WRITTEN, EMPTY] = ["pasted", "There is no scenario: open one, paste it, or take an example."];
   const [encoder, decoder] = [new TextEncoder(), new TextDecoder()];
-  // The scenario, as it was opened or null where it was written here, and its name; what counts the seconds of a run.
+  // All that is given by hand. It is locked while something runs, so that what comes of a run is of what stands here.
+  const inputs = at("part").querySelectorAll(".intake input, .intake select, .intake textarea, .intake button:not(#planner-stop)");
+  // The scenario as it was opened, or null where it was written here, and its name; what runs now, with what it was given, or null.
   let opened = null;
-  let name = "scenario";
-  let clock = null;
+  let name = WRITTEN;
+  let running = null;
 
   function say(text, isWrong) {
     at("said").textContent = text;
     at("said").classList.toggle("wrong", Boolean(isWrong));
   }
 
-  // While the program runs, how long it has run; it can be stopped.
-  function running(what) {
-    const began = performance.now();
-    const tick = () => say(`${what} … ${((performance.now() - began) / 1000).toFixed(0)} s`);
+  // Says what runs, and for how long.
+  function tick() {
+    say(`${running.what} … ${((performance.now() - running.began) / 1000).toFixed(0)} s`);
+  }
+
+  // Takes away what is shown of another plan.
+  function forget() {
+    at("found").hidden = at("shown").hidden = true;
+    at("found").querySelector(".verdict").classList.remove("good");
+    at("shown").replaceChildren();
+    maps.begin();
+  }
+
+  function locked(isLocked) {
+    inputs.forEach((it) => { it.disabled = isLocked; });
+    at("stop").hidden = !isLocked;
+  }
+
+  // Locks the page for what runs, which can be stopped, until it ends: what it is says what it was given, and what is shown of others goes.
+  async function alone(what, action) {
+    running = { what, began: performance.now(), isStopped: false };
+    const focused = document.activeElement;
+    locked(true);
+    forget();
+    tick();
+    const clock = window.setInterval(tick, 1000);
+    const [said, isWrong] = await action().catch((why) => [`Nothing is shown: ${why.message}.`, true]);
     window.clearInterval(clock);
-    clock = what === null ? null : window.setInterval(tick, 1000);
-    at("stop").hidden = what === null;
-    at("plan").disabled = at("check").disabled = what !== null;
-    if (what !== null) {
-      forget();
-      tick();
+    running = null;
+    locked(false);
+    focused.focus({ preventScroll: true });
+    say(said, isWrong);
+  }
+
+  // What the program answers, unless it is stopped.
+  async function ask(words, input) {
+    const mine = running;
+    const answer = await carried.ask(words, input);
+    if (mine.isStopped) {
+      throw new Error("it was stopped");
+    }
+    return answer;
+  }
+
+  function stop() {
+    if (running !== null) {
+      running.isStopped = true;
+      carried.stop();
     }
   }
 
@@ -36,121 +77,125 @@
     return line === null ? `${said}.` : `${said}: ${text === undefined ? "the text ends before it" : text.slice(0, 200)}`;
   }
 
-  // Shows an accepted plan, or gap plan, as a page of `show` does.
-  async function show(scenario, plan, word, checked) {
-    const mapped = await carried.ask(["map", "flown", ...reading.plan(plan).path], scenario);
-    const own = await shown.search(scenario, plan, mapped.out);
+  // Shows an accepted plan, or gap plan, of what was given, as a page of `show` does. All that the program says of it is asked before.
+  async function show(given, plan, word, checked) {
+    const both = carried.joined(given.scenario, plan);
+    const mapped = await ask(["map", "flown", ...reading.plan(plan).path], reading.bare(given.scenario));
+    const report = word === "check" ? await ask(["report"], both) : null;
+    const own = await shown.search(given.scenario, plan, mapped.out);
     const here = markup.filled("checked_here", { seconds: checked.seconds.toFixed(2) });
     shown.put(at("shown"), own, shown.main(own));
-    at("name").textContent = name;
+    at("name").textContent = given.name;
     at("chance").innerHTML = tables.chance(own);
     at("verdict").replaceChildren(told.element("span", tables.verdict(own)), " ", told.element("small", here));
     at("about").textContent = shown.about(own);
     at("found").querySelector(".verdict").classList.add("good");
-    told.save(at("save"), plan, `${name}.${word === "check" ? "plan" : "gap"}`);
-    told.save(at("made"), carried.joined(scenario, plan), `${name}.made`);
-    at("report").hidden = word !== "check";
-    if (word === "check") {
-      told.save(at("report"), (await carried.ask(["report"], carried.joined(scenario, plan))).bytes, `${name}.report`);
-    }
+    saved(given.name, [plan, report, both], word);
     at("found").hidden = at("shown").hidden = false;
     maps.begin();
   }
 
-  // Takes away what is shown of another plan.
-  function forget() {
-    at("found").hidden = at("shown").hidden = true;
-    at("found").querySelector(".verdict").classList.remove("good");
-    at("shown").replaceChildren();
-    maps.begin();
+  // Lets what is shown be saved, under the name of the scenario that it is of: the plan, its report, and the scenario with its plan.
+  function saved(called, [plan, report, both], word) {
+    told.save(at("save"), plan, `${called}.${word === "check" ? "plan" : "gap"}`);
+    told.save(at("made"), both, `${called}.made`);
+    at("report").hidden = report === null;
+    if (report !== null) {
+      told.save(at("report"), report.bytes, `${called}.report`);
+    }
   }
 
-  // Has a plan checked, and shows it where it is accepted.
-  async function judge(scenario, plan, said) {
+  // Has a plan checked, and shows it where it is accepted: what is to be said then.
+  async function judge(given, plan, said) {
     const word = decoder.decode(plan.subarray(0, 4)) === "gap " ? "checkgap" : "check";
-    const checked = await carried.ask([word], carried.joined(scenario, plan));
-    if (checked.status === ACCEPTED) {
-      await show(scenario, plan, word, checked);
-      say(said);
-    } else {
-      say(`Not accepted: ${fault(checked, scenario)}`, true);
+    const checked = await ask([word], carried.joined(given.scenario, plan));
+    if (checked.status !== ACCEPTED) {
+      return [`Not accepted: ${fault(checked, given.scenario)}`, true];
     }
+    await show(given, plan, word, checked);
+    return [said, false];
   }
 
   // Plans; where the records run out, a path with a ceiling is made of those that there may be.
-  async function plan(scenario) {
-    const most = Number(at("nodes").value);
-    let made = await carried.ask(["plan", "--workers", "1", "--nodes", String(most)], scenario);
+  async function plan(given) {
+    let made = await ask(["plan", "--workers", "1", "--nodes", String(given.most)], given.scenario);
     if (made.status === TOO_MANY) {
-      running("Too many records are needed: a path with a ceiling is made");
-      made = await carried.ask(["gap", "--workers", "1", "--nodes", String(Math.min(most, MOST_OF_A_GAP))], scenario);
+      running.what = `Too many records are needed for ${given.name}: a path with a ceiling is made`;
+      made = await ask(["gap", "--workers", "1", "--nodes", String(Math.min(given.most, MOST_OF_A_GAP))], given.scenario);
     }
-    if (made.status === 0) {
-      await judge(scenario, made.bytes, `Planned in ${made.seconds.toFixed(2)} s.`);
-    } else {
-      say(`Nothing is planned: ${fault(made, scenario)}`, true);
-    }
-  }
-
-  // The scenario that stands here now, and the plan behind it, if there is one.
-  function given() {
-    const bytes = opened || encoder.encode(at("text").value);
-    const [scenario, behind] = reading.parts(bytes);
-    return /^(plan|gap) /.test(decoder.decode(behind.subarray(0, 5))) ? [scenario, behind] : [bytes, null];
-  }
-
-  // Runs what asks the program of these, and says what stops it.
-  async function attempt(what, action) {
-    if (at("text").value.trim() === "") {
-      say("There is no scenario: open one, paste it, or take an example.", true);
-      return;
-    }
-    running(what);
-    try {
-      await action(...given());
-    } catch (why) {
-      say(`Nothing is shown: ${why.message}.`, true);
-    }
-    running(null);
-  }
-
-  // Takes the bytes of a scenario as they are; what is edited in the box comes in their place.
-  function take(bytes, called) {
-    [opened, name] = [bytes, called];
-    at("text").value = decoder.decode(bytes);
-    forget();
-    say(`${called} is open.`);
-  }
-
-  async function open(event) {
-    const file = event.target.files[0];
-    if (file) {
-      take(new Uint8Array(await file.arrayBuffer()), file.name.replace(/\.(scenario|made)$/, ""));
-    }
+    return made.status === 0
+      ? judge(given, made.bytes, `Planned in ${made.seconds.toFixed(2)} s.`)
+      : [`Nothing is planned: ${fault(made, given.scenario)}`, true];
   }
 
   // Checks the plan behind the scenario, or else that of the file that was chosen.
-  async function check(scenario, behind) {
-    const file = at("file-of-plan").files[0];
-    if (behind !== null) {
-      await judge(scenario, behind, "The plan behind the scenario is accepted.");
-    } else if (file) {
-      await judge(scenario, new Uint8Array(await file.arrayBuffer()), `${file.name} is accepted.`);
-    } else {
-      say("There is no plan to check: choose its file.", true);
+  async function check(given) {
+    if (given.behind !== null) {
+      return judge(given, given.behind, "The plan behind the scenario is accepted.");
     }
+    if (given.file) {
+      return judge(given, new Uint8Array(await given.file.arrayBuffer()), `${given.file.name} is accepted.`);
+    }
+    return ["There is no plan to check: choose its file.", true];
+  }
+
+  // All that stands here now, as one value: the scenario, its name, and the plan behind it, if there is one; the file of a plan; the most records.
+  function given() {
+    const bytes = opened || encoder.encode(at("text").value);
+    const [scenario, behind] = reading.parts(bytes);
+    const both = /^(plan|gap) /.test(decoder.decode(behind.subarray(0, 5))) ? [scenario, behind] : [bytes, null];
+    return Object.freeze({ name, scenario: both[0], behind: both[1], file: at("file-of-plan").files[0], most: Number(at("nodes").value) });
+  }
+
+  // Runs what asks the program of what stands here now.
+  function attempt(what, action) {
+    if (at("text").value.trim() === "") {
+      say(EMPTY, true);
+    } else if (!at("nodes").checkValidity()) {
+      say(`Records are a whole number from 1 to ${at("nodes").max}.`, true);
+    } else {
+      const taken = given();
+      alone(`${what} ${taken.name}`, () => action(taken));
+    }
+  }
+
+  // Takes the bytes of a scenario as they are, with their name, which was chosen at `own`; `other` is where one may have been chosen before.
+  // (A dialog that was open before something ran may end while it runs.)
+  function take(source, [own, other], called) {
+    if (running !== null) {
+      at(own).value = "";
+      return;
+    }
+    alone(`Opening ${called}`, async () => {
+      const bytes = await source();
+      [opened, name, at(other).value] = [bytes, called, ""];
+      at("text").value = decoder.decode(bytes);
+      return [`${called} is open.`, false];
+    });
+  }
+
+  // What is written or pasted in the box is no file's, and no example.
+  function written() {
+    [opened, name, at("file").value, at("example").value] = [null, WRITTEN, "", ""];
+    forget();
+    say(at("text").value.trim() === "" ? "" : `The scenario was written here. It is called ${WRITTEN}.`);
   }
 
   if (carried.lacking()) {
     say(`Nothing can be planned here: ${carried.lacking()}.`, true);
     return;
   }
-  at("file").addEventListener("change", open);
-  at("example").addEventListener("change", async () => take(await carried.unpacked(`example-${at("example").value}`), at("example").value));
-  at("text").addEventListener("input", () => { opened = null; forget(); });
+  at("file").addEventListener("change", () => {
+    const file = at("file").files[0];
+    if (file) {
+      take(async () => new Uint8Array(await file.arrayBuffer()), ["file", "example"], file.name.replace(/\.(scenario|made)$/, ""));
+    }
+  });
+  at("example").addEventListener("change", () => take(() => carried.unpacked(`example-${at("example").value}`), ["example", "file"], at("example").value));
+  at("text").addEventListener("input", written);
   at("plan").addEventListener("click", () => attempt("Planning", plan));
   at("check").addEventListener("click", () => attempt("Checking", check));
-  at("stop").addEventListener("click", () => carried.stop());
-  at("plan").disabled = at("check").disabled = false;
+  at("stop").addEventListener("click", stop);
+  locked(false);
   carried.tellSum();
 }());

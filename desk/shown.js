@@ -191,18 +191,5 @@ const shown = (function () {
     Object.entries(drawn === null ? {} : sizes(drawn)).forEach(([name, size]) => place.style.setProperty(name, size));
   }
 
-  // What is needed to colour a map of the page anew, and to draw on it: the cells of each square by their names, which squares have parts that
-  // are coloured, and how many side by side; the limits of the colours; and where places are. No place is known where there is no map.
-  function drawing({ squares, sc }, drawn) {
-    const named = squares.filled.map((it) => [squares.names[it], squares.cells[it].map((cell) => sc.names[cell])]);
-    const point = (it) => it && drawn.point(it).map((at) => Number(markup.fixed(at, 1)));
-    const map = drawn === null ? { parted: [], finer: 1, points: [] } : {
-      parted: drawn.parted.map((it) => squares.names[it]),
-      finer: drawn.layout.finer,
-      points: drawn.layout.positions.map(point),
-    };
-    return { squares: named, classes: picture.CLASSES, ...map };
-  }
-
-  return { search, main, about, head, put, drawing };
+  return { search, main, about, head, put };
 }());

@@ -1,6 +1,6 @@
 // What the program's texts say, and how it is shown: shared by the parts of a page in which the program runs.
 const told = (function () {
-  const [PERCENT, SVG] = [100000n, "http://www.w3.org/2000/svg"];
+  const PERCENT = 100000n;
 
   // A new element with a text, or with others in it.
   function element(kind, inner, ...classes) {
@@ -60,48 +60,14 @@ const told = (function () {
     return found;
   }
 
-  // The value and the whole behind `chance` in a report, a plan or a gap plan.
-  function chance(text) {
-    return text.match(/^chance (\d+) (\d+)/m).slice(1).map(BigInt);
-  }
-
   // All that masses hold.
   function sum(left) {
     return [...left.values()].reduce((all, it) => all + it, 0n);
   }
 
-  // A row for each look: its number, from where, what it finds, and what is found so far.
-  function rows(values, names, whole) {
-    return values.map((value, index) => {
-      const found = value - (index ? values[index - 1] : 0n);
-      const [each, all] = [percent(found, whole), percent(value, whole)].map((it) => element("td", it, "number"));
-      return element("tr", [element("th", String(index + 1)), element("td", names[index]), each, all]);
-    });
-  }
-
   // The pairs of a name and its mass where this isn't nothing, the greatest first; of equal masses the one that stands first.
   function greatest(left) {
     return [...left].filter((it) => it[1] > 0n).sort((a, b) => (a[1] < b[1] ? 1 : a[1] > b[1] ? -1 : 0));
-  }
-
-  // The likeliest cells, as shares of what is left.
-  function likeliest(left) {
-    const missed = sum(left);
-    return greatest(left).slice(0, 5).map((it) => `${it[0]} ${percent(it[1], missed)}`).join(", ");
-  }
-
-  // The legs between the looks of a path, where both ends have a place: those flown are drawn through, those to come dotted.
-  function legs(points, gone) {
-    return points.slice(1).map((to, index) => {
-      const [from, group] = [points[index], document.createElementNS(SVG, "g")];
-      group.setAttribute("class", index + 1 < gone ? "gone" : "coming");
-      if (from && to) {
-        const leg = document.createElementNS(SVG, "path");
-        leg.setAttribute("d", `M ${from.join(" ")} L ${to.join(" ")}`);
-        group.append(leg);
-      }
-      return group;
-    });
   }
 
   // The SHA-256 of bytes, in hexadecimal.
@@ -119,5 +85,5 @@ const told = (function () {
     link.download = name;
   }
 
-  return { element, cut, up, share, percent, colour, looks, chance, sum, rows, greatest, likeliest, legs, sha256, save };
+  return { element, cut, up, share, percent, colour, looks, sum, greatest, sha256, save };
 }());

@@ -74,6 +74,14 @@ class Chromium(webdriver.Chrome):
         yield
         self.execute_cdp_cmd("Page.removeScriptToEvaluateOnNewDocument", taken)
 
+    @contextlib.contextmanager
+    def without_storage(self):
+        """Lets the pages that are opened within have no store of their own."""
+        refused = "Object.defineProperty(window, 'localStorage', { get() { throw new DOMException('no', 'SecurityError'); } })"
+        taken = self.execute_cdp_cmd("Page.addScriptToEvaluateOnNewDocument", {"source": refused})
+        yield
+        self.execute_cdp_cmd("Page.removeScriptToEvaluateOnNewDocument", taken)
+
     def logs(self):
         """The addresses that were asked for since the last call, and what the console said."""
         events = [json.loads(it["message"])["message"] for it in self.get_log("performance")]
@@ -211,6 +219,12 @@ class Firefox(webdriver.Remote):
         self.within("Services.prefs.setBoolPref('javascript.options.wasm', false)")
         yield
         self.within("Services.prefs.clearUserPref('javascript.options.wasm')")
+
+    @contextlib.contextmanager
+    def without_storage(self):
+        self.within("Services.prefs.setBoolPref('dom.storage.enabled', false)")
+        yield
+        self.within("Services.prefs.clearUserPref('dom.storage.enabled')")
 
     def logs(self):
         """The addresses of this page and of what it asked for, and what the console said of pages since the last call."""

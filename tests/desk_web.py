@@ -18,7 +18,7 @@ from tests import answers, made, pages, web  # noqa: E402
 from tests.carrying import Carrying  # noqa: E402
 from tests.web import TOP, Answer, Case  # noqa: E402
 
-from desk import carried, page as planned_page, percent, planner  # noqa: E402
+from desk import carried, page as planned_page, planner  # noqa: E402
 
 sys.path.insert(0, os.path.join(TOP, "door", "web"))
 import build  # noqa: E402
@@ -445,35 +445,6 @@ class InBrowser:
                         self.assertEqual(told["text"] is not None, said == self.NOT_YET)
             self.assertEqual(seen[name]["console"], [], name)
             self.assertEqual([it for it in seen[name]["asked"] if not it.startswith(("file://", "blob:null/"))], [], name)
-
-    def test_on_scene(self):
-        """What is planned behind three clicks is what `replan` writes, and its numbers are those of examples/; by keys alone, too."""
-        seen = self.visit({"scene": self.page(*self.files("drifting-grid"))})["scene"]
-        clicks, grid = seen["clicks"], pages.example("drifting-grid")[0]
-        self.assertEqual(clicks["flown"], ["r0c1", "r0c2", "r0c3"])
-        self.assertEqual(pages.read(os.path.join(self.folder, clicks["file"])), pages.read(f"{pages.EXAMPLES}/drifting-grid-flown.made"))
-        self.assertEqual(clicks["file"], "drifting-grid-scenario-flown-3.made")
-        self.assertRegex(clicks["verdict"], f"^Accepted: no path that begins as flown is better\\. {self.HERE.pattern}$")
-        # (README.md has this chance. The first three looks find nothing, since nobody is there.)
-        self.assertTrue(clicks["chance"].startswith("16.296 % chance to find them"), clicks["chance"])
-        looks = web.native([Case(["map", "flown", *"r0c1 r0c2 r0c3".split()], grid)])[0].out.decode().split("period ")[3].splitlines()
-        masses = [(it.split()[1], int(it.split()[2])) for it in looks if it.startswith("left")]
-        whole, missed = 128 * 10**15, sum(it[1] for it in masses)
-        said = [(cell, *(percent.cut(mass, it) if mass else "0" for it in (whole, missed)), mass) for cell, mass in masses]
-        self.assertEqual(clicks["cells"], [f"{cell}: {of_all} % of all, {of_left} % if nothing was found; {mass} of {whole}" for cell, of_all, of_left, mass in said])
-        self.assertEqual(clicks["legs"], [3, 5])
-        path = "r0c1 (flown),r0c2 (flown),r0c3 (flown),r1c3,r2c3,r3c3,r3c3,r4c3".split(",")
-        self.assertEqual([it[1] for it in clicks["rows"]], path)
-        self.assertEqual([it[3] for it in clicks["rows"]][-1], "16.296 %")
-        self.assertEqual(re.findall(r"^ +\d  (\S+(?: \(flown\))?) .* %$", clicks["radio"], re.M), path)
-        self.assertEqual((seen["undone"]["flown"], seen["undone"]["found"]), (["r0c1", "r0c2"], False))
-        self.assertEqual((seen["wrong"]["flown"], seen["wrong"]["said"]), (["r0c1", "r0c2"], "r9c9 is no place to look from."))
-        self.assertEqual((seen["illegal"]["flown"], seen["refused"]["found"]), (["r0c1", "r0c2", "r6c6"], False))
-        self.assertEqual(seen["refused"]["said"], f"Nothing is planned: {web.native([Case(['replan', 'flown', 'r0c1', 'r0c2', 'r6c6'], grid)])[0].err.decode().strip()}.")
-        self.assertEqual((seen["cleared"]["flown"], seen["cleared"]["found"]), ([], False))
-        self.assertEqual((seen["planned"]["flown"], seen["planned"]["chance"][:8]), (["r0c1"], "17.557 %"))
-        self.assertEqual((seen["console"], seen["wide"]), ([], 0))
-        self.assertEqual([it for it in seen["asked"] if not it.startswith(("file://", "blob:null/"))], [])
 
     def test_planner(self):
         """What a page to plan in plans is what `plan --workers 1` writes, `gap` where the records run out, and wrong texts are told."""

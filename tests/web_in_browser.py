@@ -2,9 +2,8 @@
 
 It is run by /usr/bin/python3: web_in_browser.py chromium|firefox FOLDER PAGE.html ... The folder takes the pictures, on a desktop and on a
 tablet. One whose name begins with "tampered" is opened once, without a picture; from one whose name begins with "without" WebAssembly is
-taken away first; on one whose name begins with "scene" looks are marked as
-flown, and the rest is planned; in one whose name begins with "osp" scenarios are planned, and of one whose name begins with "shown" it is said
-what it shows. It ends as in_browser.py does where there is no browser.
+taken away first; in one whose name begins with "osp" scenarios are planned, and of one whose name begins with "shown" it is said what it
+shows. It ends as in_browser.py does where there is no browser.
 """
 import json
 import os
@@ -42,67 +41,6 @@ def visited(seen_by, page, folder):
         seen[name] = settled(visit)
         visit.picture(name)
     return seen | visit.browser.logs()
-
-
-def told(visit):
-    """What the part for what was flown says, once no plan is being made."""
-    ends = time.monotonic() + SECONDS
-    while visit.run("return !document.getElementById('onscene-stop').hidden") and time.monotonic() < ends:
-        time.sleep(0.1)
-    return visit.run(
-        """
-        const part = (it) => document.getElementById(`onscene-${it}`);
-        const cells = [...part("map").querySelectorAll(".cells rect")].map((it) => it.querySelector("title").textContent);
-        return {
-          flown: [...part("flown").children].map((it) => it.textContent), said: part("said").textContent, found: !part("found").hidden,
-          verdict: part("verdict").textContent, chance: part("chance").textContent, now: part("now").textContent, cells,
-          rows: [...part("rows").children].map((row) => [...row.children].map((it) => it.textContent)), radio: part("radio").textContent,
-          legs: ["gone", "coming"].map((it) => part("map").querySelectorAll(`g.${it}`).length), file: part("save").download,
-        };"""
-    )
-
-
-def mark(visit, square):
-    """Clicks a square of the map that is to be seen."""
-    visit.run("document.querySelector('.frame:not([hidden])').scrollIntoView()")
-    for it in visit.browser.find_elements("css selector", ".frame:not([hidden]) .cells rect"):
-        if it.get_attribute("textContent").startswith(f"{square}: "):
-            it.click()
-
-
-def by_keys(visit, *keys):
-    """Presses keys where the focus is."""
-    visit.press(*keys)
-    return told(visit)
-
-
-def on_scene(seen_by, page, folder):
-    """Marks three looks by three clicks on the map and plans the rest; then by keys alone: one back, one as planned, one that is none."""
-    seen_by.saves_to(folder)
-    visit = Visit(seen_by, page, folder)
-    visit.open(TABLET)
-    settled(visit)
-    visit.element("#onscene-mark").click()
-    for square in ("r0c1", "r0c2", "r0c3"):
-        mark(visit, square)
-    visit.element("#onscene-plan").click()
-    seen = {"clicks": told(visit)}
-    visit.element("#onscene-save").click()
-    visit.picture("flown")
-    visit.run("document.getElementById('onscene-undo').focus()")
-    seen["undone"] = by_keys(visit, Keys.ENTER)
-    visit.run("document.querySelector('.onscene-name').focus()")
-    seen["wrong"] = by_keys(visit, "r9c9", Keys.ENTER)
-    seen["illegal"] = by_keys(visit, "r6c6", Keys.ENTER)
-    visit.run("document.getElementById('onscene-plan').focus()")
-    seen["refused"] = by_keys(visit, Keys.ENTER)
-    visit.run("document.getElementById('onscene-clear').focus()")
-    seen["cleared"] = by_keys(visit, Keys.ENTER)
-    visit.run("document.getElementById('onscene-next').focus()")
-    by_keys(visit, Keys.ENTER)
-    visit.run("document.getElementById('onscene-plan').focus()")
-    seen["planned"] = by_keys(visit, Keys.ENTER)
-    return seen | {"wide": visit.run("return document.documentElement.scrollWidth - window.innerWidth")} | visit.browser.logs()
 
 
 def drawn(visit):
@@ -221,8 +159,6 @@ def opened(seen_by, page, folder):
     """The same for a page from which WebAssembly may be taken away."""
     if os.path.basename(page).startswith("tampered"):
         return tampered(seen_by, page, folder)
-    if os.path.basename(page).startswith("scene"):
-        return on_scene(seen_by, page, folder)
     if os.path.basename(page).startswith("osp"):
         return in_planner(seen_by, page, folder)
     if os.path.basename(page).startswith("shown"):
