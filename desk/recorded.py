@@ -11,7 +11,7 @@ import os
 import re
 from fractions import Fraction
 
-from desk import accepted, moments, packages, placing
+from desk import accepted, fields, moments, packages, placing
 from desk.ensemble import Course, wrong
 from desk.keys import shown
 
@@ -223,6 +223,8 @@ def of_netcdf(name, path, clock, frame, digest):
     metres = in_metres(name, frame, DEGREES)
     try:
         with netcdf.Dataset(os.path.abspath(path)) as data:
+            if other := fields.told(data):
+                raise wrong(name, f"{other}; of tracks {VARIABLES}")
             file = Variables(name, data, minutes_of(name, netcdf, data, clock))
             courses, empty = file.courses()
     except (OSError, RuntimeError):
