@@ -1,5 +1,6 @@
 """By how much an area should be wider: where drifts would go if it had no edge."""
 import dataclasses
+import itertools
 from fractions import Fraction
 
 from desk import tracks
@@ -15,13 +16,25 @@ SIDES = ("north", "west", "south", "east")
 
 
 def without_edge(given):
-    """The same situation, with water around its area, and the north-west corner of that."""
-    grid, away = given.grid, MARGIN * given.grid.side
-    land = frozenset((row + MARGIN, column + MARGIN) for row, column in grid.land)
+    """The same situation in an area that is wider by MARGIN squares on each side. They are water, but for those behind land at the edge:
+    a shore goes straight on there. Tracks of a file know better where there is water, and have it all around the area."""
+    grid, told, away = given.grid, given.tracks.ensemble, MARGIN * given.grid.side
+    land = frozenset((row + MARGIN, column + MARGIN) for row, column in grid.land | behind(given))
     wide = dataclasses.replace(grid, rows=grid.rows + 2 * MARGIN, columns=grid.columns + 2 * MARGIN, land=land, frame=None)
-    told = given.tracks.ensemble and given.tracks.ensemble.moved(float(away), float(away))
+    told = told and told.moved(float(away), float(away))
     chosen = dataclasses.replace(given.tracks, ensemble=told)
     return dataclasses.replace(given, grid=wide, is_lost=False, reports=tuple(it.moved(away, away, grid.side) for it in given.reports), tracks=chosen)
+
+
+def behind(given):
+    """The squares around the area, MARGIN on each side, that are taken for land: those whose nearest square in it is; none for tracks of a
+    file."""
+    grid = given.grid
+    if given.tracks.ensemble:
+        return frozenset()
+    rows, columns = (range(-MARGIN, count + MARGIN) for count in (grid.rows, grid.columns))
+    around = (it for it in itertools.product(rows, columns) if not grid.contains(it))
+    return frozenset(it for it in around if grid.nearest(it) in grid.land)
 
 
 def beyond(grid, place):
@@ -51,16 +64,26 @@ def wanted(given):
 
 def note(given, share):
     """What to add where this share of the tracks, above MUCH, is at or over the edge by the last look."""
-    grid, added = given.grid, dict(zip(SIDES, wanted(given)))
+    added = dict(zip(SIDES, wanted(given)))
     told = f"note: {float(share) * 100:.1f} percent are at or over the edge of the area by the last look"
     kinds = dict(north="row", west="column", south="row", east="column")
     words = [f"{count} {kinds[side]}{'s' * (count > 1)} in the {side}" for side, count in added.items() if count]
     if not words:
         return f"{told}, and would hardly go on from there"
+    return f"{told}; where there is water, add {', '.join(words)}: {change(given, added)}"
+
+
+def change(given, added):
+    """The keys of an area to which so many rows or columns are added by SIDES, in words."""
+    grid, land = given.grid, behind(given)
     rows, columns = grid.rows + added["north"] + added["south"], grid.columns + added["west"] + added["east"]
-    change = f"rows = {rows} and columns = {columns}"
-    if rows * columns - len(grid.land) >= MOST_CELLS:
-        change += ", with larger cells"
+    told = f"rows = {rows} and columns = {columns}"
+    tops, lefts = range(-added["north"], grid.rows + added["south"]), range(-added["west"], grid.columns + added["east"])
+    dry = len(grid.land) + sum(row in tops and column in lefts for row, column in land)
+    if rows * columns - dry >= MOST_CELLS:
+        told += ", with larger cells"
+    if dry > len(grid.land):
+        told += ", and land behind that at the edge, which is taken to go straight on"
     if added["north"] or added["west"]:
-        change += "; names and metres then count from the new corner"
-    return f"{told}; add {', '.join(words)}: {change}"
+        told += "; names and metres then count from the new corner"
+    return told

@@ -15,7 +15,7 @@ import re
 import warnings
 from fractions import Fraction
 
-from desk import accepted, moments, packages, placing, reading
+from desk import accepted, fields, moments, packages, placing, reading
 from desk.ensemble import Course, wrong
 from desk.keys import shown
 
@@ -260,6 +260,8 @@ def of_netcdf(name, file, clock, frame, digest):
         with warnings.catch_warnings(), dataset(netcdf, file) as data:
             # (The package warns of attributes that it doesn't use.)
             warnings.simplefilter("ignore")
+            if other := fields.told(data):
+                raise wrong(name, f"{other}; of tracks {VARIABLES}")
             told = Variables(name, data, minutes_of(name, netcdf, data, clock))
             courses, empty = told.courses()
     except (OSError, RuntimeError) as why:

@@ -1,7 +1,7 @@
 """What a draft says of itself: the comments of its scenario, and the lines on standard error."""
 import re
 
-from desk import detection, earth, layout, margins, moments, percent, placing, quoting, rounding, twofold
+from desk import ashore, detection, earth, layout, margins, moments, percent, placing, quoting, rounding, twofold
 from desk.chain import deviations
 from desk.comments import OF_SITUATION, SITUATION, of_times
 from desk.geometry import decimal
@@ -80,7 +80,8 @@ def facts(shares, drift, draft):
 
 
 def lines(shares, drift, draft, told):
-    """The lines to say: what is `told` first of all (facts), how many periods would fit, detection, what is at the edge, and warnings."""
+    """The lines to say: what is `told` first of all (facts), how many periods would fit, detection, what is at the edge and
+    who is held by land, and warnings."""
     sc = draft.scenario
     yield from told
     yield from (f"{drift.tracks.file}: {it}" for it in drift.tracks.said[1:])
@@ -93,6 +94,7 @@ def lines(shares, drift, draft, told):
     )
     yield from detections(shares)
     yield from edge(shares, drift)
+    yield from ashore.lines(shares.grid, drift.tracks)
     yield twofold.line(shares.given, sc)
     yield from warnings(shares, draft)
 

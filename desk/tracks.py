@@ -26,13 +26,15 @@ TOLD = 1000
 class Tracks:
     """Drifts of a situation. `looks[t - 1]` has, for each track, its place at the look of period t: metres east and south of
     the north-west corner as a pair of floats, or None where it has left the area and is lost. They were simulated from `seed`, or where that
-    is None are those of the `file` of a name, of which `said` are lines to say."""
+    is None are those of the `file` of a name, of which `said` are lines to say. Of simulated ones `ashore[t - 1]` has, ascending, the numbers
+    (from 0 on) of those that land stopped in their last way before the look of period t."""
 
     count: int
     seed: int | None
     looks: tuple
     file: str | None = None
     said: tuple = ()
+    ashore: tuple = ()
 
     @property
     def origin(self):
@@ -178,14 +180,14 @@ def simulated(given, count=None, seed=None, tell=None):
     total = sum(it.weight for it in given.reports)
     limits = [float(it / total) for it in itertools.accumulate(it.weight for it in given.reports)]
     drifts = Drifts(given)
-    looks = tuple([] for _ in range(given.periods))
+    looks, ashore = (tuple([] for _ in range(given.periods)) for _ in range(2))
     for done in range(count):
         if tell and done % TOLD == 0:
             tell(done)
         report = reports[bisect.bisect_right(limits, draw())]
         begins, place = report.time(draw), report.place(draw)
-        track(looks, place, drifts.moves(begins, draw), water, draw)
-    return Tracks(count, seed, looks)
+        track((looks, ashore), place, drifts.moves(begins, draw), water, draw)
+    return Tracks(count, seed, looks, ashore=ashore)
 
 
 class Drifts:
@@ -206,12 +208,15 @@ class Drifts:
         return [plain_moves(first) + self.plain_before[at + 1 :], *self.plain_later]
 
 
-def track(looks, place, drifts, water, draw):
-    """Puts a track's place at each look behind those of the others."""
-    gone = water.gone
-    for found, moves in zip(looks, drifts):
+def track(lists, place, drifts, water, draw):
+    """Puts a track's place at each look behind those of the others, and its number into the lists of the looks at which land holds it;
+    `lists` are both, by look."""
+    gone, water.is_aground = water.gone, False
+    for found, ashore, moves in zip(*lists, drifts):
         for spread, legs in moves if place else ():
             aside, down = (spread * (2 * draw() - 1), spread * (2 * draw() - 1)) if spread else (0.0, 0.0)
             for east, south, share in legs:
                 place = place and gone(place, east + share * aside, south + share * down)
+        if place and water.is_aground:
+            ashore.append(len(found))
         found.append(place)

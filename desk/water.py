@@ -17,6 +17,8 @@ class Water:
         self.is_lost, self.side, self.columns = is_lost, float(grid.side), grid.columns
         self.width, self.height = float(grid.columns * grid.side), float(grid.rows * grid.side)
         self.cells = grid.cells()
+        # Whether the last way of `gone` ended before land.
+        self.is_aground = False
         # By square, and by squares of a ring around the area: whether it isn't land.
         self.ring = [(row, column) not in grid.land for row in range(-1, grid.rows + 1) for column in range(-1, grid.columns + 1)]
         # By square: how many metres one may go from anywhere in it along both axes, and come to no land. Nobody is on land.
@@ -58,9 +60,10 @@ class Water:
         """Where a track ends that would go straight so many metres from a place; None where it leaves the area and is lost.
 
         It goes from square to square. Where it would enter land, or pass between two corners of land, it stays; what is held at the edge
-        of the area goes along the edge.
+        of the area goes along the edge. `is_aground` says then whether it stays before land.
         """
         x, y = place
+        self.is_aground = False
         far = self.clear[int(y / self.side) * self.columns + int(x / self.side)]
         if -far < east < far and -far < south < far:
             return self.held(x + east, y + south)
@@ -68,8 +71,8 @@ class Water:
         east, south = east / count, south / count
         for left in reversed(range(count)):
             to = x + east, y + south
-            place, is_aground = (self.held(*to), False) if self.is_open(x, y, *to) else self.along_land(x, y, east, south)
-            if place is None or is_aground:
+            place, self.is_aground = (self.held(*to), False) if self.is_open(x, y, *to) else self.along_land(x, y, east, south)
+            if place is None or self.is_aground:
                 return place
             if not self.is_inside(*to):
                 # Along the edge goes what is left of the way.

@@ -1,11 +1,19 @@
 """Tests `desk.earth`: places by a second projection, geodesics by hand, and how places are read and written."""
+import glob
 import math
+import os
+import subprocess
+import sys
+import tempfile
 import unittest
 from fractions import Fraction
+from unittest import mock
 
 from tests.packaged import on_earth, without
 
 from desk import earth, packages
+
+TOP = os.path.dirname(os.path.dirname(os.path.realpath(__file__)))
 
 # By PROJ 9.1.1 (+proj=aeqd +ellps=WGS84): the place of reference, metres east and south of it, latitude and longitude.
 PLACES = (
@@ -82,11 +90,55 @@ class Frames(unittest.TestCase):
 
 
 class Lacking(unittest.TestCase):
-    def test_a_lacking_package_is_told_in_one_line(self):
-        with without("geographiclib.geodesic"), self.assertRaises(packages.Lacking) as lacking:
+    TOLD = "places on the earth need the package python3-geographiclib, which "
+
+    def said(self, executable, debian=packages.DEBIAN):
+        """What is said by a Python of a name where geographiclib can't be loaded, and Debian's packages are in a folder."""
+        with (without("geographiclib.geodesic"), mock.patch("sys.executable", executable), mock.patch("desk.packages.DEBIAN", debian),
+              mock.patch("sys.path", sys.path.copy()), self.assertRaises(packages.Lacking) as lacking):
             earth.Frame(57, 10).to_earth(0, 0)
-        told = "places on the earth need the package python3-geographiclib, which isn't there for this Python"
-        self.assertEqual(str(lacking.exception), f"{told}: install it, as by apt install python3-geographiclib")
+        self.assertTrue(str(lacking.exception).startswith(self.TOLD), lacking.exception)
+        return str(lacking.exception).removeprefix(self.TOLD)
+
+    def test_a_lacking_package_is_told_in_one_line(self):
+        install = "isn't there for this Python: install it, as by apt install python3-geographiclib"
+        with tempfile.TemporaryDirectory() as empty:
+            self.assertEqual(self.said(packages.PYTHON, empty), install)
+            self.assertEqual(self.said(os.path.realpath(packages.PYTHON), empty), install)
+            self.assertEqual(self.said("/opt/other/bin/python3", empty), f"{install}, which makes it for /usr/bin/python3")
+
+    def test_another_python_that_cannot_load_it_is_told_whose_it_is(self):
+        this = f"/opt/other/bin/python3, which is {sys.version_info[0]}.{sys.version_info[1]}"
+        told = f"is there for /usr/bin/python3, and not for {this}: let Debian's Python come first, as by PATH=/usr/bin:$PATH"
+        with tempfile.TemporaryDirectory() as room:
+            os.mkdir(os.path.join(room, "geographiclib"))
+            with open(os.path.join(room, "geographiclib", "__init__.py"), "w", encoding="utf-8"):
+                pass
+            self.assertEqual(self.said("/opt/other/bin/python3", room), told)
+            # Debian's own has no other to turn to.
+            self.assertNotIn("/usr/bin", self.said(packages.PYTHON, room))
+
+    def test_other_pythons_of_this_machine(self):
+        """What one of another minor version says of a package that is compiled; and what it loads is what is Python alone."""
+        found = [it for it in glob.glob(os.path.expanduser("~/.pyenv/versions/*/bin/python3")) if is_newer(it)]
+        if not found or not os.path.exists(os.path.join(packages.DEBIAN, "netCDF4", "__init__.py")):
+            self.skipTest("there is no other Python of a later minor version, or no python3-netcdf4")
+        asked = "import sys; sys.path.insert(0, sys.argv[1])\nfrom desk import packages\nprint(packages.module(*sys.argv[2:]).__name__)"
+        for python in found:
+            words = [python, "-I", "-B", "-c", asked, TOP]
+            said = subprocess.run([*words, "netCDF4", "python3-netcdf4", "it needs"], capture_output=True, text=True).stderr.splitlines()[-1]
+            self.assertIn("it needs python3-netcdf4, which is there for /usr/bin/python3, and not for ", said)
+            self.assertIn(": let Debian's Python come first, as by PATH=/usr/bin:$PATH", said)
+            if os.path.exists(os.path.join(packages.DEBIAN, "geographiclib")):
+                done = subprocess.run([*words, "geographiclib.geodesic", "python3-geographiclib", "it needs"], capture_output=True, text=True)
+                self.assertEqual(done.stdout, "geographiclib.geodesic\n", done.stderr)
+
+
+def is_newer(python):
+    """Whether a Python is of a later minor version than Debian's own."""
+    asked = "import sys; print(*sys.version_info[:2])"
+    one, other = (subprocess.run([it, "-I", "-c", asked], capture_output=True, text=True).stdout.split() for it in (python, packages.PYTHON))
+    return bool(one and other) and [*map(int, one)] > [*map(int, other)]
 
 
 class Spelled(unittest.TestCase):

@@ -216,6 +216,62 @@ class OpenDrift(File):
         self.assertIn("its places are latitudes and longitudes, and the area has none; give it one, as in [area] north_west", said)
 
 
+@with_netcdf
+class Fields(File):
+    """Files of what drives a drift, and of no tracks. The standard names are those of the CF Standard Name Table."""
+
+    def field(self, variables, dimensions=("time", "lat", "lon")):
+        """Why a file with these variables, names with their standard names, is none of tracks."""
+        netcdf = packages.module("netCDF4", "python3-netcdf4", "this case needs")
+        with netcdf.Dataset(os.path.join(self.room, "field.nc"), "w") as data:
+            for it in dimensions:
+                data.createDimension(it, 2)
+            time = data.createVariable("time", "f8", ("time",))
+            time.units, time[:] = "seconds since 1970-01-01 00:00:00", TIMES[:2]
+            for name, standard in variables.items():
+                made = data.createVariable(name, "f4", dimensions)
+                made[:] = 0.5
+                if standard:
+                    made.standard_name = standard
+        return self.refused(self.ensemble, "field.nc")
+
+    def test_what_it_has_is_told(self):
+        tracks = "of tracks it should have the dimensions trajectory and time, the variables lon and lat over both, and time, as OpenDrift writes them"
+        current, wind = "as in [[current]] with knots = 0.6 and towards = 45", "as in [[wind]] with knots = 12 and from = 270"
+        for variables, told in (
+            ({"uo": "eastward_sea_water_velocity", "vo": "northward_sea_water_velocity"}, f"currents (uo, vo), and no tracks; they are written as rows, {current}; {tracks}"),
+            ({"a": "sea_water_x_velocity", "b": "sea_water_y_velocity"}, f"currents (a, b), and no tracks; they are written as rows, {current}; {tracks}"),
+            ({"a": "surface_eastward_sea_water_velocity"}, f"currents (a), and no tracks; they are written as rows, {current}; {tracks}"),
+            ({"water_u": "", "water_v": ""}, f"currents (water_u, water_v), and no tracks; they are written as rows, {current}; {tracks}"),
+            ({"u10": "eastward_wind", "v10": "northward_wind"}, f"winds (u10, v10), and no tracks; they are written as rows, {wind}; {tracks}"),
+            ({"a": "x_wind", "b": "wind_speed"}, f"winds (a, b), and no tracks; they are written as rows, {wind}; {tracks}"),
+            ({"hs": "sea_surface_wave_significant_height", "d": "sea_surface_wave_from_direction"}, f"waves (hs, d), and no tracks; {tracks}"),
+            ({"s": "sea_surface_wave_stokes_drift_x_velocity"}, f"waves (s), and no tracks; {tracks}"),
+            (
+                {"x": "x_wind", "u": "eastward_sea_water_velocity"},
+                f"currents (u) and winds (x), and no tracks; they are written as rows, {current} and {wind[6:]}; {tracks}",
+            ),
+        ):
+            with self.subTest(variables):
+                self.assertEqual(self.field(variables), f"[tracks] file: field.nc: it has {told}")
+
+    def test_what_is_known_by_nothing_is_told_as_before(self):
+        """A stress of the wind is none, a temperature neither; and u of a standard name that isn't one of currents goes by that name."""
+        told = "[tracks] file: field.nc: it should have the dimensions trajectory and time"
+        for variables in ({"t": "sea_water_temperature"}, {"s": "surface_downward_eastward_stress"}, {"uo": "eastward_sea_ice_velocity"}, {"any": ""}):
+            with self.subTest(variables):
+                self.assertTrue(self.field(variables).startswith(told), self.field(variables))
+
+    def test_tracks_with_currents_beside_them_are_tracks(self):
+        """OpenDrift writes what drove its tracks into the same file: what lacks here are places, and not tracks."""
+        told = self.field({"x_sea_water_velocity": "x_sea_water_velocity"}, ("time", "trajectory"))
+        self.assertTrue(told.startswith("[tracks] file: field.nc: it should have the dimensions"), told)
+
+    def test_a_name_of_the_file_steers_no_terminal(self):
+        told = self.field({"u\u202eo": "eastward_sea_water_velocity"})
+        self.assertIn("it has currents (u\\u202eo), and no tracks", told)
+
+
 class Lacking(File):
     def test_without_the_package(self):
         self.write("ensemble.nc", b"")

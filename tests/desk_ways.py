@@ -271,11 +271,38 @@ class Margins(unittest.TestCase):
 
     def test_what_is_told(self):
         it = self.current(0, 5)
-        told = "note: 60.0 percent are at or over the edge of the area by the last look; add 2 rows in the north: rows = 11 and columns = 9; names and metres "
-        self.assertEqual(margins.note(it, 0.6), told + "then count from the new corner")
+        told = "note: 60.0 percent are at or over the edge of the area by the last look; where there is water, add 2 rows in the north: rows = 11 and columns = 9; names and "
+        self.assertEqual(margins.note(it, 0.6), told + "metres then count from the new corner")
         it = self.current(90, 4, ("columns = 9", "columns = 9\nland = [\"r8c0\"]"))
-        self.assertTrue(margins.note(it, 0.051).endswith("5.1 percent are at or over the edge of the area by the last look; add 1 column in the east: rows = 9 and columns = 10"))
+        told = "5.1 percent are at or over the edge of the area by the last look; where there is water, add 1 column in the east: rows = 9 and columns = 10"
+        self.assertTrue(margins.note(it, 0.051).endswith(told))
         self.assertIn("would hardly go on from there", margins.note(self.current(90, 0), 0.06))
+
+    def test_land_at_the_edge_goes_on_beyond_it(self):
+        """With 10 knots towards 300 persons go 5 squares in a period, 1.732 to the west for each to the north. From r4c4 they come over the
+        western edge before they are beside the first row, which is land: 3 to 4 squares to the north, and then beyond c-1, a quarter of them
+        (0.928^2 / 2 / 1.732) in c-3. There they are held, and four columns more are enough."""
+        self.assertEqual(margins.wanted(self.current(300, 10, land("r0c0..r0c8"))), [0, 4, 0, 0])
+        # Without that land they are 5 squares to the north and 8.66 to the west at the last look, two periods on: in r-1, and in c-5 or c-4.
+        self.assertEqual(margins.wanted(self.current(300, 10)), [2, 6, 0, 0])
+        # Land at a corner has land behind it on both sides, and land at one side alone has it there.
+        it = self.current(0, 5, land("r0c0", "r3c8"))
+        behind = margins.behind(it)
+        self.assertEqual({square for square in behind if square[0] == 3}, {(3, column) for column in range(9, 29)})
+        corner = {(row, column) for row in range(-20, 1) for column in range(-20, 1)} - {(0, 0)}
+        self.assertEqual({square for square in behind if square[0] != 3}, corner)
+        self.assertFalse(any(it.grid.contains(square) for square in behind))
+
+    def test_land_to_add_is_told_and_counted(self):
+        it = self.current(90, 5, ("columns = 9", 'columns = 9\nland = ["r0c0..r3c8"]'))
+        self.assertEqual(margins.wanted(it), [0, 0, 0, 2])
+        told = "add 2 columns in the east: rows = 9 and columns = 11, and land behind that at the edge, which is taken to go straight on"
+        self.assertTrue(margins.note(it, 0.5).endswith(told))
+        # Of 8 rows 4 are land: with 2 columns more, 47 of them have 196 squares of water, and 48 have 200, which is too many with what is lost.
+        for wide, tail in ((47, "and land behind that"), (48, "with larger cells, and land behind that")):
+            it = self.current(90, 5, ("rows = 9", "rows = 8"), ("columns = 9", f'columns = {wide}\nland = ["r0c0..r3c{wide - 1}"]'))
+            told = margins.change(it, dict(north=0, west=0, south=0, east=2))
+            self.assertTrue(told.startswith(f"rows = 8 and columns = {wide + 2}, {tail}"), told)
 
     def test_a_wider_area_is_as_told(self):
         """Who does as the note says, isn't told again."""
