@@ -1,7 +1,7 @@
 """What a draft says of itself: the comments of its scenario, and the lines on standard error."""
 import re
 
-from desk import ashore, detection, earth, layout, margins, moments, percent, placing, quoting, rounding, twofold
+from desk import ashore, detection, earth, layout, margins, moments, percent, placing, quoting, rounding, sun, twofold
 from desk.chain import deviations
 from desk.comments import OF_SITUATION, SITUATION, of_times
 from desk.geometry import decimal
@@ -87,6 +87,7 @@ def lines(shares, drift, draft, told):
     yield from (f"{drift.tracks.file}: {it}" for it in drift.tracks.said[1:])
     yield from placing.notes(shares.grid)
     yield from reports(shares.given)
+    yield from sun.notes(shares.given)
     yield from shares.given.ways.lines(shares.given.clock)
     most = rounding.most_periods(sc.parts)
     yield f"with these parts {most} periods fit at most, {most - sc.horizon} more than these" + (
