@@ -63,7 +63,8 @@ def notes(given):
         offs = {it: math.inf if found[it] is None else (found[it] - begin) * moments.DAY - float(it) for it in times}
         far = max(times, key=lambda it: abs(offs[it]))
         if abs(offs[far]) > OFF:
-            yield f"note: [light] {key} is at {given.clock.told(far)}, and in the middle of the area {off(key, far, offs[far], given.clock)}"
+            told = f"note: [light] {key} is at {given.clock.told(far)}, and in the middle of the area"
+            yield f"{told} {off(key, far, offs[far], given.clock)}"
 
 
 def off(key, typed, minutes, clock):
