@@ -23,7 +23,8 @@ def lines(grid, tracks):
         if tracks.ashore[t - 1]:
             yield f"land holds at the {name} look, in percent: {quoting.listed([*squares(grid, tracks, t)])}"
     if max(len(it) for it in tracks.ashore) > MUCH * count:
-        yield "note: who is held by land is taken to float before it, where a look finds them as anywhere else; a party on the shore may find them, too"
+        told = "who is held by land is taken to float before it, where a look finds them as anywhere else"
+        yield f"note: {told}; a party on the shore may find them, too"
 
 
 def squares(grid, tracks, t):

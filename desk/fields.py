@@ -28,7 +28,7 @@ def told(data):
 def by_kind(variables):
     """The names of variables by what they have, in the order of KINDS."""
     kinds = {name: kind_of(name, str(getattr(it, "standard_name", ""))) for name, it in variables.items()}
-    found = {kind: [quoting.plain(it.encode("utf-8", "replace"), quoting.MOST_FIELD) for it in kinds if kinds[it] == kind] for kind, *_ in KINDS}
+    found = {kind: [quoting.name(it.encode("utf-8", "replace")) for it in kinds if kinds[it] == kind] for kind, *_ in KINDS}
     return {kind: names for kind, names in found.items() if names}
 
 

@@ -70,7 +70,8 @@ def note(given, share):
     words = [f"{count} {kinds[side]}{'s' * (count > 1)} in the {side}" for side, count in added.items() if count]
     if not words:
         return f"{told}, and would hardly go on from there"
-    return f"{told}; where there is water, add {', '.join(words)}: {change(given, added)}"
+    where = "" if given.tracks.ensemble else "where there is water, "
+    return f"{told}; {where}add {', '.join(words)}: {change(given, added)}"
 
 
 def change(given, added):

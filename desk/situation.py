@@ -139,6 +139,8 @@ class Situation:
     visibility: tuple
     parts: tuple
     tracks: TrackChoice
+    # When night ends and begins by [light], as typed: pairs of "sunset" or "sunrise" and its minutes.
+    light: tuple = ()
 
     @property
     def times(self):
@@ -230,6 +232,7 @@ def situation(given, folder=""):
         visibility=visibility(tables, clock, minutes * periods),
         parts=tuple(take_table(tables.get("parts", {}), "[parts]", keys.PARTS).values()),
         tracks=chosen,
+        light=tuple(turns(take_table(tables["light"], "[light]", keys.LIGHT), clock).items()) if "light" in tables else (),
     )
     found.ways.check(clock)
     if chosen.count or folder is None:
@@ -443,7 +446,7 @@ def daylight(table, clock, ends):
     need(it["sunset"] or it["sunrise"], "[light] sunset", 'it or sunrise should stand, as in sunset = "20:45"')
     before = {"sunset": Fraction(1), "sunrise": it["night"]}
     after = {"sunset": it["night"], "sunrise": Fraction(1)}
-    first = {key: minutes_of(f"[light] {key}", clock.nearest, it[key]) for key in before if it[key]}
+    first = turns(it, clock)
     if len(first) == 1:
         ((key, since),) = first.items()
         check_half_day(key, since, clock, ends)
@@ -451,6 +454,11 @@ def daylight(table, clock, ends):
     differ = (first["sunset"] - first["sunrise"]) % moments.DAY
     need(differ, "[light] sunset", 'it should be another time than sunrise, as in sunset = "20:45" with sunrise = "05:10"')
     return moments.Steps(tuple(sorted((each, after[key]) for key, since in first.items() for each in moments.daily(since, ends))))
+
+
+def turns(it, clock):
+    """The minutes of sunset and sunrise by their keys, of the values of [light]."""
+    return {key: minutes_of(f"[light] {key}", clock.nearest, it[key]) for key in ("sunset", "sunrise") if it[key]}
 
 
 def check_half_day(key, since, clock, ends):

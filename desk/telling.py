@@ -1,16 +1,20 @@
 """What a draft says of itself: the comments of its scenario, and the lines on standard error."""
+import math
 import re
 
-from desk import ashore, detection, earth, layout, margins, moments, percent, placing, quoting, rounding, twofold
+from desk import ashore, detection, earth, layout, margins, moments, percent, placing, quoting, rounding, sun, twofold
 from desk.chain import deviations
 from desk.comments import OF_SITUATION, SITUATION, of_times
 from desk.geometry import decimal
 from desk.rounded import name_of
 from desk.shares import BASE
+from desk.states import FINEST
 
-# From which largest rounding of a look on, and from which total variation on, a note is made.
+# From which largest rounding of a look on, and from which total variation on, a note is made; and from how many times the width of the
+# tracks on that the chain has at the first look.
 COARSE = 0.02
 APART = 0.1
+WIDER = 1.2
 ADVICE = "fewer and longer periods leave more room for denominators, and so do smaller ones in [parts] for what you know less well"
 
 
@@ -87,6 +91,7 @@ def lines(shares, drift, draft, told):
     yield from (f"{drift.tracks.file}: {it}" for it in drift.tracks.said[1:])
     yield from placing.notes(shares.grid)
     yield from reports(shares.given)
+    yield from sun.notes(shares.given)
     yield from shares.given.ways.lines(shares.given.clock)
     most = rounding.most_periods(sc.parts)
     yield f"with these parts {most} periods fit at most, {most - sc.horizon} more than these" + (
@@ -97,6 +102,7 @@ def lines(shares, drift, draft, told):
     yield from ashore.lines(shares.grid, drift.tracks)
     yield twofold.line(shares.given, sc)
     yield from warnings(shares, draft)
+    yield from blurred(shares.given, drift, draft)
 
 
 def reports(given):
@@ -140,3 +146,17 @@ def warnings(shares, draft):
     if max(draft.off) > APART:
         when = 1 + max(range(len(draft.off)), key=draft.off.__getitem__)
         yield f"note: at look {when} the scenario has {percent.up_of(max(draft.off))} percent of the person elsewhere than the tracks; {ADVICE}"
+
+
+def blurred(given, drift, draft):
+    """Whether states are coarse for these tracks. The look is the first one, since later the tracks lie farther apart, or at land or at the
+    edge, where all in a state stay in it."""
+    found = deviations(draft.chain, drift, 1)
+    ours, theirs = (math.hypot(*it) for it in found) if found else (0, 0)
+    if 0 < WIDER * theirs <= ours:
+        wider = f"{100 * (ours / theirs - 1):.0f} percent wider than the tracks at the first look, {ours:.0f} m and not {theirs:.0f}"
+        more = "a larger [tracks] finer, " * (given.tracks.finer is not None and drift.states.finer < FINEST)
+        yield (
+            f"note: the scenario's drift is {wider}: states are coarse for so narrow a drift, and a plan may promise more than it finds, "
+            f"which trial says; {more}fewer periods, or smaller cells in a smaller area make them finer"
+        )

@@ -26,8 +26,8 @@ TOLD = 1000
 class Tracks:
     """Drifts of a situation. `looks[t - 1]` has, for each track, its place at the look of period t: metres east and south of
     the north-west corner as a pair of floats, or None where it has left the area and is lost. They were simulated from `seed`, or where that
-    is None are those of the `file` of a name, of which `said` are lines to say. Of simulated ones `ashore[t - 1]` has, ascending, the numbers
-    (from 0 on) of those that land stopped in their last way before the look of period t."""
+    is None are those of the `file` of a name, of which `said` are lines to say. Of simulated ones `ashore[t - 1]` has, ascending, the
+    numbers (from 0 on) of those that land stopped in their last way before the look of period t."""
 
     count: int
     seed: int | None

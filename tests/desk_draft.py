@@ -429,6 +429,25 @@ class Drafts(unittest.TestCase):
             lines = made(LAKE.replace(old, new))[2]
             self.assertTrue(any(it.startswith(note) for it in lines), lines)
 
+    def test_a_drift_that_is_wider_than_the_tracks_is_noted(self):
+        """Tracks in a circle of 400 m around the corner of four cells of 1 km have a standard deviation of 400 / 2 m along each axis. A quarter
+        of them is in each cell, so those of the chain have one of sqrt(500^2 + 1000^2 / 12), which is 577 m: 816 and 283 m along both."""
+        text = LAKE.replace("cell_size = 463", "cell_size = 1000").replace('cell = "r1c1"', "at = [2000, 1000]\nradius = 400")
+        form = r"note: the scenario's drift is (\d+) percent wider than the tracks at the first look, (\d+) m and not (\d+): states are coarse .*"
+        for finer, hint in (("finer = 1", "; a larger [tracks] finer, fewer periods, or smaller cells"), ("", None), ("finer = 4", None)):
+            noted = [it for it in made(text.replace("finer = 1", finer))[2] if "wider than the tracks" in it]
+            self.assertEqual(len(noted), hint is not None, (finer, noted))
+            if hint:
+                self.assertIn(hint, noted[0])
+                for found, wanted in zip(map(int, re.fullmatch(form, noted[0]).groups()), (100 * (816.5 / 282.8 - 1), 816.5, 282.8)):
+                    # Of 1,000 tracks standard deviations are right to some percent.
+                    self.assertAlmostEqual(found, wanted, delta=wanted * 0.06)
+        # Anywhere in a cell the persons of the tracks are as wide as those of the chain, and at a place they have no width at all.
+        for old, new in (("at = [2000, 1000]\nradius = 400", 'cell = "r1c1"'), ("\nradius = 400", "")):
+            self.assertIn(old, text)
+            lines = made(text.replace(old, new))[2]
+            self.assertFalse(any("wider than the tracks" in it for it in lines), lines)
+
     def test_what_is_at_the_edge(self):
         # Of 4 by 3 cells r1c1 and r1c2 aren't at the edge. The report is anywhere in r1c1; a knot is a cell in a period.
         told = "in the cells at the edge of the area are {} percent at the first look, and {} at the last, if no look finds anything"

@@ -234,6 +234,12 @@ class Whole(File):
         lines = list(draft.scenario_of(given, OPEN.encode(), tracks.made(given))[1])
         (note,) = (it for it in lines if "over the edge" in it)
         self.assertIn("; add 1 row in the north, 1 column in the west, 2 rows in the south: rows = 6 and columns = 5", note)
+        # Who is in a file south of land at the edge is in water there: the file knows.
+        text = OPEN.replace("columns = 4", 'columns = 4\nland = ["r2c1..r2c3"]')
+        given = self.given(ways(), text)
+        (note,) = (it for it in draft.scenario_of(given, text.encode(), tracks.made(given))[1] if "over the edge" in it)
+        self.assertIn("2 rows in the south: rows = 6", note)
+        self.assertNotIn("land behind that", note)
 
     def trial(self, *words, status=0):
         self.write("ensemble.csv", ways().encode())
