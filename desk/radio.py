@@ -3,8 +3,6 @@ desk.brief, as JSON can have them."""
 from desk import brief, sentences, steering
 from desk.markup import filled
 
-# The cells of a way of which nothing is known.
-NONE = ["-", ""]
 # How much of a way a page has to know: nothing, that it is none, that it is straight, or that it leads around land.
 UNKNOWN, STAY, STRAIGHT, AROUND = range(4)
 
@@ -38,7 +36,7 @@ def words(search):
         "left": brief.heads_of_left(search),
         "most": brief.MOST_LEFT,
         "width": brief.WIDTH,
-        "unknown": [*NONE, UNKNOWN],
+        "unknown": way(None),
         "texts": brief.TEXTS,
     }
 
