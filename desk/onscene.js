@@ -255,7 +255,8 @@ const onscene = (function () {
   async function kept() {
     const found = await marks.begin(carried.joined(parts.scenario, parts.plan));
     const begins = first.path.slice(0, first.flown).every((it, look) => it === found[look]);
-    return begins && found.every((it) => scene.at[it] !== undefined) && found.length > first.flown && found.length <= scene.path.length ? found : null;
+    const areSome = found.length > first.flown && found.length <= scene.path.length;
+    return begins && areSome && found.every((it) => scene.at[it] !== undefined) ? found : null;
   }
 
   // Begins behind what checked.js shows, a plan with its answer, and the parts that the page carries.

@@ -133,8 +133,8 @@ class Scenes(Carrying):
         return seen
 
     def check(self, name, page, seen):
-        """Each try of a page: the saved file is what the program writes, and what the page shows is of it. Answers the words by which `show`
-        and `brief` read each file, with what was seen of it."""
+        """Each try of a page: the saved file is what the program writes, and what the page shows is of it. Answers the words by which
+        `show` and `brief` read each file, with what was seen of it."""
         looks, told = [], []
         for number, (wanted, it) in enumerate(zip(page.tries, seen["tries"], strict=True), 1):
             looks = looks[: wanted["keep"]] + wanted["looks"]

@@ -3,8 +3,8 @@
 It is run by /usr/bin/python3: scene_in_browser.py chromium|firefox FOLDER PAGE.html ... Beside a page NAME.json lists what is tried in it,
 each try with `looks`, the names of the places of each look; `keep`, how many looks of the try before stay marked, where any do; `most`, how
 many records there may be. On a page whose name begins with "clicks" looks are marked by clicks and by keys; on one whose name begins with
-"marks" it is tried what becomes of marks; of one without a list it is said what it shows. The folder takes what is saved, as NAME-1.made and
-so on, and a picture on a desktop and on a tablet. It ends as in_browser.py does where there is no browser.
+"marks" it is tried what becomes of marks; of one without a list it is said what it shows. The folder takes what is saved, as NAME-1.made
+and so on, and a picture on a desktop and on a tablet. It ends as in_browser.py does where there is no browser.
 """
 import json
 import os
