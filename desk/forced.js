@@ -1,5 +1,5 @@
-// The scenario that forces a flown prefix, as `replan` makes it (docs/FORMATS.md), and its canonical text. The program writes such a scenario
-// with its whole plan alone: where that needs too many records, `gap` plans this one.
+// The scenario that forces a flown prefix, as `replan` makes it (docs/FORMATS.md), and its canonical text. The program writes such a
+// scenario with its whole plan alone: where that needs too many records, `gap` plans this one.
 const forced = (function () {
   const upTo = (count) => Array.from({ length: count }, (_, at) => at);
   const later = (last) => upTo(Math.max(last - 1, 0)).map((it) => it + 2);

@@ -1,5 +1,6 @@
 // The looks that are marked as flown in a page, kept in the browser's own store, so that they are there again when the page is opened anew.
-// They are kept by the SHA-256 of the scenario with its plan: no other page has them. Where there is no store, the page warns before it is left.
+// They are kept by the SHA-256 of the scenario with its plan: no other page has them. Where there is no store, the page warns before it is
+// left.
 const marks = (function () {
   let key = null;
   let isKept = true;

@@ -1,15 +1,15 @@
-// On scene the searcher is not where the plan says: what was flown is marked, and the program plans the rest. The newest accepted plan leads:
-// all that the page shows is of it, and one line has the chance of the plan that the page came with.
+// On scene the searcher is not where the plan says: what was flown is marked, and the program plans the rest. The newest accepted plan
+// leads: all that the page shows is of it, and one line has the chance of the plan that the page came with.
 const onscene = (function () {
   const [NO_LETTER, TOO_MANY] = [/[^0-9a-z]/gi, 8];
   const [encoder, decoder] = [new TextEncoder(), new TextDecoder()];
   const part = document.getElementById("onscene");
   const at = (id) => document.getElementById(`onscene-${id}`);
-  // What the page carries, as bytes by name; what desk/onscene.py says of the search, positions and places standing by their numbers; by the
-  // places of a look its position.
+  // What the page carries, as bytes by name; what desk/onscene.py says of the search, positions and places standing by their numbers; by
+  // the places of a look its position.
   let [parts, scene, positions] = [null, null, null];
-  // The plan that the page came with, and the newest that was accepted, which the page shows: what checked.js says of it, its path as positions,
-  // how many looks of it are flown, and of the newest the bytes that are saved.
+  // The plan that the page came with, and the newest that was accepted, which the page shows: what checked.js says of it, its path as
+  // positions, how many looks of it are flown, and of the newest the bytes that are saved.
   let [first, newest] = [null, null];
   // The positions of the looks that are marked as flown; of the next look the places that are known; and what is planned now, or null.
   let [flown, places, running] = [[], [], null];
@@ -41,7 +41,8 @@ const onscene = (function () {
     document.getElementById("head").className = fits() ? "verdict good" : "verdict old";
     document.getElementById("radio").classList.toggle("old", !fits());
     at("before").textContent = newest === first ? "" : `Before: ${told.percent(value, weight)}, ${looks(first.flown)} flown.`;
-    at("stale").textContent = fits() ? "" : `The plan that is shown isn't one of what is marked as flown (${looks(flown.length)}): plan the rest.`;
+    const stale = `The plan that is shown isn't one of what is marked as flown (${looks(flown.length)}): plan the rest.`;
+    at("stale").textContent = fits() ? "" : stale;
   }
 
   // Shows what is marked as flown, and what can be done; and has the browser keep the marks.
@@ -149,8 +150,8 @@ const onscene = (function () {
     return ["flown", ...path.map((it) => scene.positions[it])];
   }
 
-  // The scenario that forces the looks that are flown with its plan behind it; where the records run out, with a path with a ceiling. Of that
-  // the program doesn't write the scenario, which forces these looks and no others.
+  // The scenario that forces the looks that are flown with its plan behind it; where the records run out, with a path with a ceiling. Of
+  // that the program doesn't write the scenario, which forces these looks and no others.
   async function planned(base, most) {
     const made = await ask(["replan", "--workers", "1", "--nodes", String(most), ...words(flown)], base);
     if (made.status !== TOO_MANY) {
@@ -165,7 +166,8 @@ const onscene = (function () {
   // Throws where the looks of a path don't leave in the scenario of the page what they leave in the one that was planned.
   async function held(base, path, { sc, frames }) {
     const left = told.looks((await ask(["map", ...words(path)], base)).out).map((it) => it.left);
-    if (left.length !== path.length || left.some((it, look) => sc.names.some((name, cell) => it.get(name) !== frames[look + 1].left[cell]))) {
+    const isOther = (it, look) => sc.names.some((name, cell) => it.get(name) !== frames[look + 1].left[cell]);
+    if (left.length !== path.length || left.some(isOther)) {
       throw new Error("the masses of the map aren't those of the plan");
     }
   }
@@ -203,7 +205,8 @@ const onscene = (function () {
       return [`Nothing is planned: ${(plan.answer.out || plan.answer.err).trim()}.`, true];
     }
     lead(plan);
-    return [`Planned in ${made.seconds.toFixed(2)} s. The page shows this plan: ${told.percent(plan.search.value, plan.search.weight)}, ${looks(plan.flown)} flown.`, false];
+    const chance = told.percent(plan.search.value, plan.search.weight);
+    return [`Planned in ${made.seconds.toFixed(2)} s. The page shows this plan: ${chance}, ${looks(plan.flown)} flown.`, false];
   }
 
   // Marks are locked while it plans: the plan is one of those that stand here.
@@ -251,8 +254,9 @@ const onscene = (function () {
   // The marks that the browser has kept of this plan, if they are some.
   async function kept() {
     const found = await marks.begin(carried.joined(parts.scenario, parts.plan));
-    const isOf = found.every((it) => scene.at[it] !== undefined) && first.path.slice(0, first.flown).every((it, look) => it === found[look]);
-    return isOf && found.length > first.flown && found.length <= scene.path.length ? found : null;
+    const begins = first.path.slice(0, first.flown).every((it, look) => it === found[look]);
+    const areSome = found.length > first.flown && found.length <= scene.path.length;
+    return begins && areSome && found.every((it) => scene.at[it] !== undefined) ? found : null;
   }
 
   // Begins behind what checked.js shows, a plan with its answer, and the parts that the page carries.

@@ -139,7 +139,8 @@
     return ["There is no plan to check: choose its file.", true];
   }
 
-  // All that stands here now, as one value: the scenario, its name, and the plan behind it, if there is one; the file of a plan; the most records.
+  // All that stands here now, as one value: the scenario, its name, and the plan behind it, if there is one; the file of a plan; the most
+  // records.
   function given() {
     const bytes = opened || encoder.encode(at("text").value);
     const [scenario, behind] = reading.parts(bytes);
@@ -159,8 +160,8 @@
     }
   }
 
-  // Takes the bytes of a scenario as they are, with their name, which was chosen at `own`; `other` is where one may have been chosen before.
-  // (A dialog that was open before something ran may end while it runs.)
+  // Takes the bytes of a scenario as they are, with their name, which was chosen at `own`; `other` is where one may have been chosen
+  // before. (A dialog that was open before something ran may end while it runs.)
   function take(source, [own, other], called) {
     if (running !== null) {
       at(own).value = "";
@@ -191,7 +192,10 @@
       take(async () => new Uint8Array(await file.arrayBuffer()), ["file", "example"], file.name.replace(/\.(scenario|made)$/, ""));
     }
   });
-  at("example").addEventListener("change", () => take(() => carried.unpacked(`example-${at("example").value}`), ["example", "file"], at("example").value));
+  at("example").addEventListener("change", () => {
+    const chosen = at("example").value;
+    take(() => carried.unpacked(`example-${chosen}`), ["example", "file"], chosen);
+  });
   at("text").addEventListener("input", written);
   at("plan").addEventListener("click", () => attempt("Planning", plan));
   at("check").addEventListener("click", () => attempt("Checking", check));

@@ -40,7 +40,8 @@ look one a 1 b 0
 lookin 1 one b 4 a 5
 end
 """
-# What is made of it where the searcher went to two. (A look misses all of a in 5 of 5, and what changes is told by the periods behind the first.)
+# What is made of it where the searcher went to two. (A look misses all of a in 5 of 5, and what changes is told by the periods behind the
+# first.)
 TIGHT = b"""scenario 2
 horizon 4
 parts 2 3 5

@@ -32,8 +32,8 @@ class Planning:
         self.assertEqual({it: seen[it] for it in wanted}, wanted)
 
     def test_what_is_shown_is_what_was_planned(self):
-        """Another file is chosen, and another example, and another text is written, while the page plans, and behind it: what is shown, named
-        and saved is the scenario that was planned, or nothing."""
+        """Another file is chosen, and another example, and another text is written, while the page plans, and behind it: what is shown,
+        named and saved is the scenario that was planned, or nothing."""
         status, out, err = self.run_helper(planner.main, [])
         self.assertEqual((status, err), (0, ""))
         for name, source in (("slow.scenario", SLOW), ("two.scenario", TWO), ("pasted.txt", PASTED)):
@@ -63,7 +63,8 @@ class Planning:
         """A text that is written has a name of its own, and what is shown of another one goes when it is written."""
         two, pasted = pages.read(TWO), pages.read(PASTED)
         self.holds(seen["opened"], chosen=["two.scenario", ""], text=two.decode(), found=False)
-        self.holds(seen["pasted"], chosen=["", ""], text=pasted.decode(), found=False, said="The scenario was written here. It is called pasted.")
+        self.holds(seen["pasted"], chosen=["", ""], text=pasted.decode(), found=False)
+        self.assertEqual(seen["pasted"]["said"], "The scenario was written here. It is called pasted.")
         self.holds(seen["planned"], found=True, name="pasted", files=["pasted.plan", "pasted.report", "pasted.made"])
         self.assertEqual([self.saved(it) for it in seen["saved"]], [planned(pasted), pasted + planned(pasted)])
         self.holds(seen["file"], found=True, name="two", chosen=["two.scenario", ""], files=["two.plan", "two.report", "two.made"])

@@ -1,7 +1,7 @@
 """Clicks in a page to plan in while it plans, and between plans, and writes what the page says as JSON to standard output.
 
-It is run by /usr/bin/python3: planner_in_browser.py chromium|firefox FOLDER PAGE.html. The folder has slow.scenario, which takes the program
-some seconds, and two.scenario; it takes what the page saves, and pictures. It ends as in_browser.py does where there is no browser.
+It is run by /usr/bin/python3: planner_in_browser.py chromium|firefox FOLDER PAGE.html. The folder has slow.scenario, which takes the
+program some seconds, and two.scenario; it takes what the page saves, and pictures. It ends as in_browser.py does where there is no browser.
 """
 import json
 import os
@@ -119,7 +119,7 @@ def while_it_plans(page):
 
 
 def behind_a_file(page, pasted):
-    """Opens two.scenario; then pastes another text in its place, plans it and saves; opens the file anew, writes a letter in it, and plans."""
+    """Opens two.scenario; then pastes another text in its place, plans it, saves; opens the file anew, writes a letter in it, and plans."""
     seen = {"opened": page.choose("two"), "pasted": page.replace(pasted), "planned": page.plan()}
     seen["saved"] = page.save("save", "made")
     page.choose("two")

@@ -3,8 +3,8 @@
 It is run by /usr/bin/python3: scene_in_browser.py chromium|firefox FOLDER PAGE.html ... Beside a page NAME.json lists what is tried in it,
 each try with `looks`, the names of the places of each look; `keep`, how many looks of the try before stay marked, where any do; `most`, how
 many records there may be. On a page whose name begins with "clicks" looks are marked by clicks and by keys; on one whose name begins with
-"marks" it is tried what becomes of marks; of one without a list it is said what it shows. The folder takes what is saved, as NAME-1.made and so
-on, and a picture on a desktop and on a tablet. It ends as in_browser.py does where there is no browser.
+"marks" it is tried what becomes of marks; of one without a list it is said what it shows. The folder takes what is saved, as NAME-1.made
+and so on, and a picture on a desktop and on a tablet. It ends as in_browser.py does where there is no browser.
 """
 import json
 import os
@@ -25,13 +25,15 @@ SHOWN = """
 const text = (selector) => document.querySelector(selector)?.textContent ?? null;
 const all = (selector) => [...document.querySelectorAll(selector)];
 return {
-  verdict: text("#head .accepted span"), by: text("#head .accepted small"), chance: text("#head .chance"), good: document.querySelector("#head").className,
+  verdict: text("#head .accepted span"), by: text("#head .accepted small"), chance: text("#head .chance"),
+  good: document.querySelector("#head").className,
   before: text("#onscene-before"), stale: text("#onscene-stale"), name: text("h1 bdi"), title: document.title, notes: text("#notes"),
   radio: text("#radio-text"), maps: all(".frame:not([hidden])").map((it) => it.id),
   rows: all("tr[data-period], .periods tbody tr").map((row) => [...row.children].map((it) => it.innerText)),
-  flown: all("#onscene-flown li").map((it) => it.textContent), said: text("#onscene-said"), found: !document.querySelector("#onscene-found").hidden,
+  flown: all("#onscene-flown li").map((it) => it.textContent), said: text("#onscene-said"),
+  found: !document.querySelector("#onscene-found").hidden,
   file: document.querySelector("#onscene-save").download, lost: !document.querySelector("#onscene-lost").hidden,
-  open: all("#onscene button, #onscene input").filter((it) => !it.disabled && !it.hidden).map((it) => it.id || it.className || it.textContent),
+  open: all("#onscene button, #onscene input").filter((it) => !it.disabled && !it.hidden).map((it) => it.id || it.className),
 };"""
 # What stands on the map of a figure: the classes and the words of squares, of their parts, and of what is written on squares.
 MAP = """
@@ -160,7 +162,8 @@ def clicks(visit, folder):
     seen["refused"] = pressed(visit, "#onscene-plan", Keys.ENTER)
     seen["cleared"] = pressed(visit, "#onscene-clear", Keys.ENTER)
     seen["next"] = pressed(visit, "#onscene-next", Keys.ENTER)
-    return seen | {"planned": pressed(visit, "#onscene-plan", Keys.ENTER), "wide": visit.run("return document.documentElement.scrollWidth - window.innerWidth")}
+    seen["planned"] = pressed(visit, "#onscene-plan", Keys.ENTER)
+    return seen | {"wide": visit.run("return document.documentElement.scrollWidth - window.innerWidth")}
 
 
 def while_it_plans(visit, look):
@@ -183,7 +186,7 @@ def while_it_plans(visit, look):
 
 
 def kept(visit, folder, look):
-    """Marks a look that isn't planned; plans the rest, with few records; loads the page anew; takes the mark back, and loads the page anew."""
+    """Marks a look that isn't planned; plans the rest, with few records; loads the page anew; takes the mark back, and loads it anew."""
     seen = {"opened": opened(visit, DESKTOP), "next": pressed(visit, "#onscene-next", Keys.ENTER)}
     press(visit, "#onscene-undo", Keys.ENTER)
     mark(visit, look)
