@@ -8,7 +8,7 @@ import subprocess
 import tempfile
 
 from bench.runs import TOP, Stopped
-from bench.strain_room import CANARY, OSP, STATUSES, Case
+from bench.strain_room import CANARY, OSP, STATUSES, Case, put
 
 # A situation that has every table, small enough to be drafted at once.
 LAKE = b"""title = "Lake"
@@ -97,7 +97,7 @@ JOBS = {
     "join": "join parts",
     "explain": "explain grid grid.plan",
     "explain names": "explain grid flown r0c1",
-    "explain made": "explain two.made flown harbour",
+    "explain made": "explain flown.made flown r0c1",
 }
 # What a job reads that its words don't name.
 READ_TOO = {"ensemble.toml": ["tracks.csv"], "parts": ["parts/parts/1", "parts/scenario", "parts/depth"]}
@@ -150,6 +150,12 @@ SHAPES = [
     *(f"data.renameVariable('{name}', 'old'); data.createVariable('{name}', {kind}, {over})" for name in ("lon", "status", "time") for kind, over in (("'i4'", "()"), ("str", "('time',)"), ("data.createVLType('f8', 'many')", "('time',)"))),
     "data.renameVariable('lon', 'old'); data.createVariable('lon', data.createVLType('f8', 'many'), ('trajectory', 'time'))",
 ]
+# The texts by the names that they have in a folder: examples, what ./osp makes of the lake, and those of `fill`.
+EXAMPLES = {
+    **{f"{name}{end}": f"{its}{'.scenario' if not end else end}" for name, its in (("grid", "drifting-grid"), ("two", "two-cells")) for end in ("", ".plan")},
+    **{"swath": "swath.scenario", "swath.gap": "swath.gap", "night": "night.scenario", "two.made": "night-two.made", "flown.made": "drifting-grid-flown.made"},
+}
+MADE = {"lake": "draft lake.toml", "lake.plan": "plan lake", "lake.json": "trial lake.toml lake.plan --json yes"}
 TEXTS = {}
 
 
@@ -161,31 +167,23 @@ def ran(folder, *words):
     return done.stdout
 
 
-def example(name):
-    with open(os.path.join(TOP, "examples", name), "rb") as file:
+def read(*names):
+    with open(os.path.join(*names), "rb") as file:
         return file.read()
 
 
 def fill():
-    """Makes TEXTS: examples, and what the lake gives; the parts of a folder of `split`, too. Raises Stopped."""
-    TEXTS.update({"lake.toml": LAKE, "ensemble.toml": ENSEMBLE, "tracks.csv": TRACKS, "two.made": example("night-two.made"), "night": example("night.scenario")})
-    for name, its in (("grid", "drifting-grid"), ("two", "two-cells")):
-        TEXTS.update({name: example(f"{its}.scenario"), f"{name}.plan": example(f"{its}.plan")})
-    TEXTS.update({"swath": example("swath.scenario"), "swath.gap": example("swath.gap")})
+    """Makes TEXTS: those of examples, what the lake gives, and the folder of a plan in parts. Raises Stopped."""
+    TEXTS.update({"lake.toml": LAKE, "ensemble.toml": ENSEMBLE, "tracks.csv": TRACKS, **{name: read(TOP, "examples", its) for name, its in EXAMPLES.items()}})
     with tempfile.TemporaryDirectory() as folder:
-        for name, words in (("lake", "draft lake.toml"), ("lake.plan", "plan lake"), ("lake.json", "trial lake.toml lake.plan --json yes")):
-            for its, text in TEXTS.items():
-                with open(os.path.join(folder, its), "wb") as file:
-                    file.write(text)
-            TEXTS[name] = ran(folder, *words.split())
-            with open(os.path.join(folder, name), "wb") as file:
-                file.write(TEXTS[name])
+        put(folder, Case("", [], TEXTS))
+        for name, words_of in MADE.items():
+            TEXTS[name] = ran(folder, *words_of.split())
+            put(folder, Case("", [], {name: TEXTS[name]}))
         ran(folder, "split", "1", "two", "parts")
         subprocess.run(["sh", "-c", 'while read -r it; do sh -c "$it"; done < jobs'], cwd=f"{folder}/parts", check=True, capture_output=True)
-        for top, _, names in os.walk(f"{folder}/parts"):
-            for it in names:
-                with open(os.path.join(top, it), "rb") as file:
-                    TEXTS[os.path.relpath(os.path.join(top, it), folder)] = file.read()
+        paths = [os.path.join(top, it) for top, _, names_of in os.walk(f"{folder}/parts") for it in names_of]
+        TEXTS.update({os.path.relpath(it, folder): read(it) for it in paths})
 
 
 def job(rng, *names):
@@ -384,8 +382,7 @@ def shapes(rng):
         done = subprocess.run(["/usr/bin/python3", "-c", make], cwd=folder, capture_output=True, check=False)
         if done.returncode:
             return Case("shapes", job(rng, "draft of tracks"), {**TEXTS, "tracks.csv": changed(rng, TRACKS)})
-        with open(f"{folder}/tracks.nc", "rb") as file:
-            text = file.read()
+        text = read(folder, "tracks.nc")
     if rng.random() < 0.3:
         text = changed(rng, text)
     return Case("shapes", ["draft", "ensemble.toml"], {**TEXTS, "ensemble.toml": ENSEMBLE.replace(b"tracks.csv", b"tracks.nc"), "tracks.nc": text})

@@ -5,6 +5,8 @@ import shlex
 # The longest piece of a line and of a field that is quoted, in characters.
 MOST_LINE = 100
 MOST_FIELD = 40
+# The longest word of a user that is told whole, in characters: names of files are no longer in most file systems.
+MOST_WORD = 255
 # How many names or line numbers stand in a list before it is cut short.
 MOST_LISTED = 8
 # What turns the direction of letters around.
@@ -23,8 +25,9 @@ def harmless(text):
 
 
 def word(text):
-    """A word of a user, such as the name of a file, on one line: what can't be printed is an escape."""
-    return "".join(it if it.isprintable() else escape(it) for it in text)
+    """A word of a user, such as the name of a file, on one line: what can't be printed is an escape, and a long word is cut."""
+    said = "".join(it if it.isprintable() else escape(it) for it in text[: MOST_WORD + 1])
+    return said if len(said) <= MOST_WORD else said[:MOST_WORD] + " .."
 
 
 def marked(text):

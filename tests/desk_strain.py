@@ -226,6 +226,9 @@ class Letters(Strained):
             self.assertIn(wanted, self.ran(*words)[2])
         self.assertEqual(quoting.harmless("a\x1b\u202e\u2066\u2028\u200b\x9b\udcff"), r"a\x1b\u202e\u2066\u2028\u200b\x9b\xff")
         self.assertEqual(quoting.word("a\tb\n"), r"a\tb\n")
+        said = self.ran("brief", "n" * 100_000, "plan")[2]
+        self.assertIn(f"cannot read {'n' * 255} ..: File name too long", said)
+        self.assertLess(len(said), 400)
         self.assertEqual(quoting.harmless("a\tb\nc \u00e9 \u05d0"), "a\tb\nc \u00e9 \u05d0")
 
     def test_a_folder_with_a_line_feed(self):

@@ -74,7 +74,7 @@ class Cases(unittest.TestCase):
     def test_a_seed_gives_the_same_cases_again(self):
         texts = {it: f"a = 1\nscenario {it}\n# | b = 2\n12\n".encode() for job in strain_cases.JOBS.values() for it in job.split() if it[0] not in "-0123456789"}
         texts["lake.json"] = b'{"trial": 1, "flown": [{"finds": 0.5}]}'
-        known = {"grid", "grid.plan", "swath", "swath.gap", "night", "two", "two.made", "lake", "lake.plan", "lake.toml", "lake.json", "ensemble.toml", "tracks.csv"}
+        known = {"grid", "grid.plan", "swath", "swath.gap", "night", "two", "two.made", "flown.made", "lake", "lake.plan", "lake.toml", "lake.json", "ensemble.toml", "tracks.csv"}
         with mock.patch.dict(strain_cases.TEXTS, {it: texts[it] for it in known}, clear=True):
             strain_cases.TEXTS.update({it: b"1" for its in strain_cases.READ_TOO.values() for it in its if it not in known})
             for kind in strain_cases.KINDS:
