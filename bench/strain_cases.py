@@ -68,7 +68,8 @@ finer = 1
 """
 # The same over tracks of a file.
 ENSEMBLE = LAKE.split(b"[[report]]")[0] + b'[searcher]\nstart = "r3c1"\nspeed = 8\nsweep_width = 100\n[tracks]\nfile = "tracks.csv"\n'
-TRACKS = b"id,time,x,y\n" + b"".join(b"%d,2026-08-22T%s:00Z,%d,%d\n" % (at, time, 900 + at, 1200 + at) for at in range(40) for time in (b"19:30", b"20:00", b"20:40"))
+ROWS = (f"{at},2026-08-22T{time}:00Z,{900 + at},{1200 + at}\n" for at in range(40) for time in ("19:30", "20:00", "20:40"))
+TRACKS = f"id,time,x,y\n{''.join(ROWS)}".encode()
 # Jobs by name: their words, which are names of TEXTS where they name a file.
 JOBS = {
     "plan": "plan grid",
@@ -103,10 +104,11 @@ JOBS = {
 READ_TOO = {"ensemble.toml": ["tracks.csv"], "parts": ["parts/parts/1", "parts/scenario", "parts/depth"]}
 # Values for keys of a situation.
 VALUES = [
-    *("nan", "inf", "-1", "0", "1e308", "1e-320", "9" * 400, "9223372036854775808", "-0.0", '""', "true", "[]", "{}", "0x10", "1_0", "24:00:00"),
-    *('"2026-02-29 12:00"', "0001-01-01T00:00:00Z", "0001-01-01T00:00:00+14:00", "9999-12-31T23:59:59-12:00", '"9999-12-31 23:59"', "1979-05-27T07:32:00.123456+14:00"),
-    *('"\\u202e\\u0007x"', f'"$(touch {CANARY})"', '"' + "A" * 900 + '"', "[nan, inf]", "[1e300, -1e300]", "[" * 80 + "]" * 80, "'''\nx'''"),
-    *('"r0c0..r99999999999c99999999999"', '"r-1c-1"', '["r0c0..r3c3"]', "[90, 180]", "[-90.0, -180.0]", '"90N 180E"', "[89.99999, 0]", "{a=" * 90 + "1" + "}" * 90),
+    *"nan inf -1 0 1e308 1e-320 9223372036854775808 -0.0 true [] {} 0x10 1_0 24:00:00 [1e300,-1e300] [nan,inf] [90,180] [89.99999,0]".split(),
+    *"0001-01-01T00:00:00Z 0001-01-01T00:00:00+14:00 9999-12-31T23:59:59-12:00 1979-05-27T07:32:00.123456+14:00".split(),
+    *(f'"{it}"' for it in ("", "2026-02-29 12:00", "9999-12-31 23:59", "\\u202e\\u0007x", f"$(touch {CANARY})", "A" * 900, "90N 180E")),
+    *('"r0c0..r99999999999c99999999999"', '"r-1c-1"', '["r0c0..r3c3"]', "[-90.0, -180.0]", "'''\nx'''"),
+    *("9" * 400, "[" * 80 + "]" * 80, "{a=" * 90 + "1" + "}" * 90),
 ]
 # Numbers in the place of those of a text.
 NUMBERS = [b"0", b"-1", b"9" * 50, b"9" * 400, b"1e9", b"1e400", b"00", b"1.5", b"18446744073709551616", b"nan", b"NaN", b"\xd9\xa3"]
@@ -114,48 +116,59 @@ NUMBERS = [b"0", b"-1", b"9" * 50, b"9" * 400, b"1e9", b"1e400", b"00", b"1.5", 
 BYTES = b"\0\n\r\t \x1b\xff\xc2\x9b\"'[]{}=#.,0-9e\\"
 # Names of files, as inputs and behind -o.
 NAMES = [
-    *("a b", "a'b", 'a"b', "./-x", "./--help", f"$(touch {CANARY})", f"`touch {CANARY}`", f"a;touch {CANARY}", "a\nb", "x\n", "\n", "\u00e9", "\udcff", "a\x1b[31mb", "*", "a\\b", "~", "a=b"),
-    *("%s%n", "{a,b}", "\u202eabc", "n" * 240, "./flown", "./start", "a&b", "<x", "\t", " ", "!", "(", "\u2028", "d\n/x"),
+    *"a'b a\"b ./-x ./--help \u00e9 * a\\b ~ a=b %s%n {a,b} \u202eabc ./flown ./start a&b <x ! (".split(),
+    *(f"$(touch {CANARY})", f"`touch {CANARY}`", f"a;touch {CANARY}", "a b", "a\nb", "x\n", "\n", "\udcff", "a\x1b[31mb"),
+    *("n" * 240, "\t", " ", "\u2028", "d\n/x"),
 ]
 # What stands in the place of a file that is read, and of one that is written.
-NO_FILES = ["missing", "dir", "/dev/null", "/dev/full", "/dev/zero", "/proc/self/mem", "empty", "zeros", "loop", "dangling", "two/under", "x" * 300, "/dev/fd/9", "pipe.csv/x"]
-NO_TARGETS = ["dir", "missing/x", "/dev/full", "pipe", "two/x", "loop", "", "dir/", "new/", "/proc/x", "o" * 256]
+NO_FILES = [*"missing dir /dev/null /dev/full /dev/zero /proc/self/mem empty zeros loop dangling two/under /dev/fd/9 pipe.csv/x".split(), "x" * 300]
+NO_TARGETS = [*"dir missing/x /dev/full pipe two/x loop dir/ new/ /proc/x".split(), "", "o" * 256]
 # Words that stand anywhere.
 WORDS = [
-    *("--seconds", "--minutes", "--workers", "--nodes", "--json", "yes", "-o", "out", "two", "grid.plan", "--", "-", "flown", "start", "a", "", "-1", "0", "99999999999999999999", "1e3", "\u0663", "nan"),
-    *("--of", "--of=", "--flown", "--flown=a,,b", "--flown=" + "a," * 5000, "--horizon", "33", "--from", "25:00", "--from=2026-02-30", "--minutes=0", "--trial", "--pattern", "all", "--count", "--help"),
-    *("--form", "xml", "\x1b[2J", "\u202e", "a" * 20000, "--path", "--path=,", "--seed", "/", ".", "/dev/null", "--jobs", "--tracks", "\udcff", "--=", "-oo", "--nodes=5", "*", f"$(touch {CANARY})"),
+    *"--seconds --minutes --workers --nodes --json yes -o out two grid.plan -- - flown start a -1 0 99999999999999999999 1e3 nan".split(),
+    *"--of --of= --flown --flown=a,,b --horizon 33 --from 25:00 --from=2026-02-30 --minutes=0 --trial --pattern all --count --help".split(),
+    *"--form xml --path --path=, --seed / . /dev/null --jobs --tracks --= -oo --nodes=5 *".split(),
+    *("", "\u0663", "--flown=" + "a," * 5000, "\x1b[2J", "\u202e", "a" * 20000, "\udcff", f"$(touch {CANARY})"),
 ]
 COMMANDS = [*STATUSES, "alone", "plna", "", "-", "--", "--version", "-V", "help"]
 STREAMS = [">&-", "<&-", "2>&-", ">&- 2>&- <&-", "> /dev/full", "2> /dev/full", "> /dev/full 2>&1", "| :"]
 LIMITS = ["-f 0", "-f 1", "-n 8", "-v 45000", "-v 60000", "-v 120000", "-v 300000", "-t 1"]
 ENVIRONMENTS = [
     *({"LC_ALL": it} for it in ("C", "POSIX", "tr_TR.UTF-8", "xx_YY.broken", "../../../tmp")),
-    {"PYTHONPATH": ".", "PYTHONSTARTUP": "evil.py", "PYTHONINSPECT": "1", "PYTHONHOME": "/nonexistent"},
-    {"PYTHONIOENCODING": "ascii:strict"},
-    {"PYTHONOPTIMIZE": "2", "PYTHONDEVMODE": "1", "PYTHONWARNINGS": "error"},
-    *({"CDPATH": ".:/tmp"}, {"IFS": "/sop."}, {"POSIXLY_CORRECT": "1"}, {"HOME": "/nonexistent"}, {"ENV": "evil.sh"}, {"BASH_ENV": "/nonexistent"}, {"OSP": ""}, {"FUNCNEST": "2"}),
     *({"TMPDIR": it} for it in ("/nonexistent/x", "", "two")),
     *({"TZ": it} for it in ("../../etc/passwd", "A" * 5000)),
+    {"PYTHONPATH": ".", "PYTHONSTARTUP": "evil.py", "PYTHONINSPECT": "1", "PYTHONHOME": "/nonexistent"},
+    {"PYTHONOPTIMIZE": "2", "PYTHONDEVMODE": "1", "PYTHONWARNINGS": "error"},
+    *(dict([it.split("=")]) for it in "PYTHONIOENCODING=ascii:strict CDPATH=.:/tmp IFS=/sop. POSIXLY_CORRECT=1 HOME=/nonexistent".split()),
+    *(dict([it.split("=")]) for it in "ENV=evil.sh BASH_ENV=/nonexistent OSP= FUNCNEST=2".split()),
     {"COLUMNS": "1", "LINES": "-1", "TERM": "\x1b"},
-    {"half": "two", "target": "two", "program": "/bin/false", "here": "/tmp", "files": "two", "words": "x", "python": f"touch {CANARY}", "GLOBIGNORE": "*", "PROMPT_COMMAND": f"touch {CANARY}"},
+    {"half": "two", "target": "two", "program": "/bin/false", "here": "/tmp", "files": "two", "words": "x", "GLOBIGNORE": "*"},
+    {"python": f"touch {CANARY}", "PROMPT_COMMAND": f"touch {CANARY}"},
 ]
-EVIL = {it: f"open('{CANARY}', 'w').close()\n".encode() for it in ("evil.py", "json.py", "tomllib.py", "argparse.py", "sitecustomize.py", "desk/__init__.py", "desk/__main__.py", "netCDF4.py")}
+LOADED = "evil.py json.py tomllib.py argparse.py sitecustomize.py desk/__init__.py desk/__main__.py netCDF4.py".split()
+EVIL = {it: f"open('{CANARY}', 'w').close()\n".encode() for it in LOADED}
+# What stands for a number that Python doesn't write.
+MARK = "xxxxxxxx"
 TIMES = ["9999-12-31 23:50Z", "0001-01-01 00:00Z", "0000-00-00 00:00", "25:99", "2199-12-31 23:59Z", "1900-01-01 00:00", "2026-02-29 12:00Z", "\u0661\u0669:\u0664\u0660"]
 # What netCDF files have of another shape: lines of Python over `data`, an open file as OpenDrift writes it, and `numpy`.
+COUNTS, SCALES = ("[]", "[1., 2., 3.]"), ("add_offset", "scale_factor", "valid_max", "valid_range")
+OTHERS = ("'i4', ()", "str, ('time',)", "data.createVLType('f8', 'many'), ('time',)")
 SHAPES = [
     *(f"data['status'].flag_values = {it}" for it in ("1.5", "numpy.array([0.5, 1.5])", "'0b 1b'", "numpy.array([], 'i4')")),
-    *(f"data['{name}'].{its} = {value}" for name in ("lon", "lat", "time") for its in ("add_offset", "scale_factor", "valid_max", "valid_range") for value in ("numpy.array([], 'f8')", "numpy.array([1., 2., 3.])")),
-    *("data['lon'].add_offset = 'x'", "data['time'].units = 'x since y'", "data['time'].units = numpy.array([1])", "data['time'].calendar = '360_day'", "data['status'].flag_meanings = numpy.array([1])"),
-    *(f"data.renameVariable('{name}', 'old'); data.createVariable('{name}', {kind}, {over})" for name in ("lon", "status", "time") for kind, over in (("'i4'", "()"), ("str", "('time',)"), ("data.createVLType('f8', 'many')", "('time',)"))),
+    *(f"data['{name}'].{its} = numpy.array({it})" for name in ("lon", "lat", "time") for its in SCALES for it in COUNTS),
+    *(f"data.renameVariable('{name}', 'old'); data.createVariable('{name}', {its})" for name in ("lon", "status", "time") for its in OTHERS),
+    *("data['lon'].add_offset = 'x'", "data['time'].units = 'x since y'", "data['time'].units = numpy.array([1])"),
+    *("data['time'].calendar = '360_day'", "data['status'].flag_meanings = numpy.array([1])"),
     "data.renameVariable('lon', 'old'); data.createVariable('lon', data.createVLType('f8', 'many'), ('trajectory', 'time'))",
 ]
 # The texts by the names that they have in a folder: examples, what ./osp makes of the lake, and those of `fill`.
 EXAMPLES = {
-    **{f"{name}{end}": f"{its}{'.scenario' if not end else end}" for name, its in (("grid", "drifting-grid"), ("two", "two-cells")) for end in ("", ".plan")},
-    **{"swath": "swath.scenario", "swath.gap": "swath.gap", "night": "night.scenario", "two.made": "night-two.made", "flown.made": "drifting-grid-flown.made"},
+    **{"grid": "drifting-grid.scenario", "grid.plan": "drifting-grid.plan", "two": "two-cells.scenario", "two.plan": "two-cells.plan"},
+    **{"swath": "swath.scenario", "swath.gap": "swath.gap", "night": "night.scenario"},
+    **{"two.made": "night-two.made", "flown.made": "drifting-grid-flown.made"},
 }
 MADE = {"lake": "draft lake.toml", "lake.plan": "plan lake", "lake.json": "trial lake.toml lake.plan --json yes"}
+RUN_JOBS = 'while read -r it; do sh -c "$it"; done < jobs'
 TEXTS = {}
 
 
@@ -174,14 +187,15 @@ def read(*names):
 
 def fill():
     """Makes TEXTS: those of examples, what the lake gives, and the folder of a plan in parts. Raises Stopped."""
-    TEXTS.update({"lake.toml": LAKE, "ensemble.toml": ENSEMBLE, "tracks.csv": TRACKS, **{name: read(TOP, "examples", its) for name, its in EXAMPLES.items()}})
+    TEXTS.update({"lake.toml": LAKE, "ensemble.toml": ENSEMBLE, "tracks.csv": TRACKS})
+    TEXTS.update({name: read(TOP, "examples", its) for name, its in EXAMPLES.items()})
     with tempfile.TemporaryDirectory() as folder:
         put(folder, Case("", [], TEXTS))
         for name, words_of in MADE.items():
             TEXTS[name] = ran(folder, *words_of.split())
             put(folder, Case("", [], {name: TEXTS[name]}))
         ran(folder, "split", "1", "two", "parts")
-        subprocess.run(["sh", "-c", 'while read -r it; do sh -c "$it"; done < jobs'], cwd=f"{folder}/parts", check=True, capture_output=True)
+        subprocess.run(["sh", "-c", RUN_JOBS], cwd=f"{folder}/parts", check=True, capture_output=True)
         paths = [os.path.join(top, it) for top, _, names_of in os.walk(f"{folder}/parts") for it in names_of]
         TEXTS.update({os.path.relpath(it, folder): read(it) for it in paths})
 
@@ -268,7 +282,8 @@ def names(rng):
         files[name] = TEXTS[found[at]]
         found[at] = name
     end = ".gpx" if found[0] == "chart" else "2" if name == target else ""
-    return Case("names", written(found, target + end), files, made=(os.path.normpath(target + end) if target.strip() else target + end,))
+    target += end
+    return Case("names", written(found, target), files, made=(os.path.normpath(target) if target.strip() else target,))
 
 
 def same(rng):
@@ -301,7 +316,8 @@ def no_files(rng):
         return no_files(rng)
     found[at] = name
     files = {**TEXTS, "dir/x": b"", "empty": b"", "zeros": bytes(5000)}
-    return Case("no files", found, files, links={"loop": "loop", "dangling": "nowhere"}, pipes=("pipe.csv",), made=made(found), wanted=STATUSES.get(Case("", found, {}).command) - {0})
+    links, wanted = {"loop": "loop", "dangling": "nowhere"}, STATUSES[Case("", found, {}).command] - {0}
+    return Case("no files", found, files, links=links, pipes=("pipe.csv",), made=made(found), wanted=wanted)
 
 
 def no_targets(rng):
@@ -331,13 +347,16 @@ def limits(rng):
     out = None if found[0] == "split" else "out"
     words_of = written(found, "out") if out else found
     files = {**TEXTS, **({"out": b"old"} if out else {})}
-    return Case("limits", words_of, files, line=f'ulimit {most}; exec "$0" "$@"', out=out, made=made(found), more=frozenset({0, 6, 7, 70, *([-9, -24] if "-t" in most else [-25] if "-f" in most else [])}))
+    ends = {"-t": {-9, -24}, "-f": {-25}}.get(most[:2], set())
+    line, more = f'ulimit {most}; exec "$0" "$@"', frozenset({0, 6, 7, 70, *ends})
+    return Case("limits", words_of, files, line=line, out=out, made=made(found), more=more)
 
 
 def environments(rng):
     """Variables that steer bash, Python and the C library; files of the folder that would be loaded."""
     found = job(rng)
-    return Case("environments", found, {**TEXTS, **EVIL, "evil.sh": f"touch {CANARY}\n".encode()}, env=rng.choice(ENVIRONMENTS), drop=rng.choice(((), ("HOME",), ("LANG",))), made=made(found))
+    files, drop = {**TEXTS, **EVIL, "evil.sh": f"touch {CANARY}\n".encode()}, rng.choice(((), ("HOME",), ("LANG",)))
+    return Case("environments", found, files, env=rng.choice(ENVIRONMENTS), drop=drop, made=made(found))
 
 
 def signals(rng):
@@ -346,7 +365,8 @@ def signals(rng):
     out = None if found[0] == "split" else "out"
     words_of = written(found, "out") if out else found
     files = {**TEXTS, **({"out": b"old"} if out else {})}
-    return Case("signals", words_of, files, out=out, made=made(found), signal=(int(number), rng.uniform(0.02, 1.5)), more=frozenset({-number, 128 + number}))
+    sent, more = (int(number), rng.uniform(0.02, 1.5)), frozenset({-int(number), 128 + number})
+    return Case("signals", words_of, files, out=out, made=made(found), signal=sent, more=more)
 
 
 def times(rng):
@@ -355,21 +375,21 @@ def times(rng):
     found = job(rng, "brief", "chart", "geojson", "next")
     if rng.random() < 0.5:
         return Case("times", [*found, f"--from={time}", "--minutes", rng.choice(("15", "1440", "0", "9" * 30))], dict(TEXTS))
-    told = f"# 3 periods of {rng.choice(('15', '1440', '0', '9999.99'))} minutes from {time} to {time}; a look counts at the end of its period, the first at {time}\n".encode()
+    told = f"# 3 periods of {rng.choice(('15', '1440', '0', '9999.99'))} minutes from {time} to {time}; "
+    told += f"a look counts at the end of its period, the first at {time}\n"
     at = next(it for it in found if it in ("lake", "grid"))
-    return Case("times", found, {**TEXTS, at: re.sub(rb"(?m)^# \d+ periods? of .*\n", b"", TEXTS[at]).replace(b"scenario ", told + b"scenario ", 1)})
+    bare = re.sub(rb"(?m)^# \d+ periods? of .*\n", b"", TEXTS[at])
+    return Case("times", found, {**TEXTS, at: bare.replace(b"scenario ", told.encode() + b"scenario ", 1)})
 
 
 def trials(rng):
     """Numbers and texts of a trial's JSON, behind --trial."""
-    told = json.loads(TEXTS["lake.json"])
-    value = rng.choice((int("9" * 400), -1, 0, 1.5, 1e300, None, True, [], {}, "x" * 9, [[None]], [[[int("9" * 400), 1]]], [[[0]]], "\u202e"))
-    told[rng.choice(list(told))] = value
-    for key in rng.sample(list(told["flown"][0]), 1) if isinstance(told["flown"], list) and told["flown"] and isinstance(told["flown"][0], dict) else []:
-        told["flown"][0][key] = value if rng.random() < 0.5 else told["flown"][0][key]
-    text = json.dumps(told).replace('"x' + "x" * 8 + '"', rng.choice(("1e400", "NaN", "9" * 5000, '"\\ud800"')))
-    words_of = rng.choice(("brief lake lake.plan --trial lake.json", "show lake lake.plan --trial lake.json")).split()
-    return Case("trials", words_of, {**TEXTS, "lake.json": text.encode()})
+    told, long = json.loads(TEXTS["lake.json"]), int("9" * 400)
+    value = rng.choice((long, -1, 0, 1.5, 1e300, None, True, [], {}, MARK, [[None]], [[[long, 1]]], [[[0]]], "\u202e"))
+    where = rng.choice((told, told["flown"][0]))
+    where[rng.choice(list(where))] = value
+    text = json.dumps(told).replace(f'"{MARK}"', rng.choice(("1e400", "NaN", "9" * 5000, '"\\ud800"')))
+    return Case("trials", [rng.choice(("brief", "show")), "lake", "lake.plan", "--trial", "lake.json"], {**TEXTS, "lake.json": text.encode()})
 
 
 def shapes(rng):
@@ -385,7 +405,8 @@ def shapes(rng):
         text = read(folder, "tracks.nc")
     if rng.random() < 0.3:
         text = changed(rng, text)
-    return Case("shapes", ["draft", "ensemble.toml"], {**TEXTS, "ensemble.toml": ENSEMBLE.replace(b"tracks.csv", b"tracks.nc"), "tracks.nc": text})
+    situation = ENSEMBLE.replace(b"tracks.csv", b"tracks.nc")
+    return Case("shapes", ["draft", "ensemble.toml"], {**TEXTS, "ensemble.toml": situation, "tracks.nc": text})
 
 
 KINDS = (values, texts, words, names, same, streams, no_files, no_targets, pipes, limits, environments, signals, times, trials, shapes)

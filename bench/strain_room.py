@@ -115,6 +115,15 @@ def put(folder, case):
         os.mkfifo(os.path.join(folder, it))
 
 
+def filled(room, case):
+    """The folder for a case in a room, with what it has in it, and that as `seen` has it."""
+    folder = os.path.join(room, "here")
+    for it in (folder, f"{room}/tmp"):
+        os.mkdir(it)
+    put(folder, case)
+    return folder, seen(folder)
+
+
 def seen(folder):
     """What stands in a folder and below, by name: for a file its rights and the sum of its bytes, for a link where it leads."""
     found = {}
@@ -209,6 +218,14 @@ def faults_of_text(it):
         yield f"{len(it.said)} bytes on standard error"
 
 
+def is_whole(case, now):
+    """Whether the file behind -o is the one that the case writes without its signal, which may have come just behind it."""
+    with tempfile.TemporaryDirectory(prefix="strained-") as room:
+        folder, _ = filled(room, case)
+        run(folder, room, dataclasses.replace(case, signal=None), "again")
+        return seen(folder).get(case.out) == now.get(case.out)
+
+
 def faults_of_files(case, it, before, now):
     """Which files were changed, made, left or lost that may not be."""
     may = {*case.made, *([case.out] if case.out else [])}
@@ -218,18 +235,14 @@ def faults_of_files(case, it, before, now):
         elif before.get(name) != now.get(name) and name not in may and not any(name.startswith(f"{each}/") for each in may):
             yield f"file {'left behind' if name not in before else 'lost' if name not in now else 'changed'}: {name!a}"
     is_answer = it.status in WRITTEN or case.command in ("check", "checkgap") and it.status == 1 or case.command in ("explain", "timed")
-    if case.out and not is_answer and before.get(case.out) != now.get(case.out):
+    if case.out and not is_answer and before.get(case.out) != now.get(case.out) and not (case.signal and is_whole(case, now)):
         yield f"status {it.status}, and the file behind -o is another one"
 
 
 def faults(case, number):
     """Makes a room, runs a case in it, and answers how it ended and what is wrong with that."""
     with tempfile.TemporaryDirectory(prefix="strained-") as room:
-        folder = os.path.join(room, "here")
-        for it in ("here", "tmp"):
-            os.mkdir(os.path.join(room, it))
-        put(folder, case)
-        before = seen(folder)
+        folder, before = filled(room, case)
         it = run(folder, room, case, f"{os.getpid()}.{number}")
         found = [*faults_of_status(case, it), *faults_of_text(it), *faults_of_files(case, it, before, seen(folder))]
         found += [f"left in TMPDIR: {name!a}" for name in os.listdir(f"{room}/tmp")]

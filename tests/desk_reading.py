@@ -2,7 +2,6 @@
 import hashlib
 import io
 import os
-import resource
 import subprocess
 import sys
 import tempfile
@@ -14,9 +13,12 @@ from unittest import mock
 from desk import guarding, moments, reading, recorded, stopping
 from desk.ensemble import at_looks
 from desk.keys import BadSituation
-from tests.pages import EXAMPLES, TOP, Room, example, read
+from tests.pages import EXAMPLES, PROGRAM, TOP, Room, example, read
 
 KAYAKER = f"{TOP}/examples/situations/kayaker.toml"
+# The program that helpers ask.
+ASKING = {**os.environ, "OSP": PROGRAM}
+TELL = "please tell the project, with the files"
 # Few tracks of a situation.
 FEW = b"[tracks]\ncount = 1000\n"
 # Runs a helper under the guard, as the words say.
@@ -110,9 +112,8 @@ class Names(Room):
     @staticmethod
     def guarded(words, most):
         """The status, the output and what is said of a helper under the guard, which has so many bytes of addresses."""
-        how = {"stdin": subprocess.DEVNULL, "capture_output": True, "check": False}
-        env = {**os.environ, "OSP": f"{TOP}/tests/stand-in-osp" if words[0] == "draft" else os.environ.get("OSP", f"{TOP}/osp")}
-        done = subprocess.run([sys.executable, "-I", "-B", "-c", GUARDED, *words], env=env, preexec_fn=lambda: resource.setrlimit(resource.RLIMIT_AS, (most, most)), **how)
+        command = ["prlimit", f"--as={most}", sys.executable, "-I", "-B", "-c", GUARDED, *words]
+        done = subprocess.run(command, env=ASKING, stdin=subprocess.DEVNULL, capture_output=True, check=False)
         return done.returncode, done.stdout, done.stderr
 
 
@@ -120,7 +121,8 @@ class Pipes(Room):
     """Helpers by the front door, with what bash makes of <( ), which can be read once."""
 
     def ran(self, line, *words):
-        done = subprocess.run(["bash", "-c", line, f"{TOP}/osp", *words], cwd=self.room, stdin=subprocess.DEVNULL, capture_output=True, check=False, timeout=120)
+        how = {"stdin": subprocess.DEVNULL, "capture_output": True, "check": False, "timeout": 120}
+        done = subprocess.run(["bash", "-c", line, f"{TOP}/osp", *words], cwd=self.room, env=ASKING, **how)
         return done.returncode, done.stdout, done.stderr
 
     def test_explain(self):
@@ -138,8 +140,8 @@ class Pipes(Room):
         tracks = self.write("e.csv", "\n".join(["id,time,x,y", *rows, ""]).encode())
         dated = read(KAYAKER).replace(b'begins = "19:30"', b'begins = "2026-07-04 19:30"')
         situation = self.write("s.toml", dated + FEW)
-        for line, name in (('"$0" trial "$1" --pattern all --tracks <(cat "$2")', None), ('"$0" trial "$1" --pattern all --tracks - < "$2"', "standard input")):
-            status, out, said = self.ran(line, situation, tracks)
+        for way, name in (('<(cat "$2")', None), ('- < "$2"', "standard input")):
+            status, out, said = self.ran(f'"$0" trial "$1" --pattern all --tracks {way}', situation, tracks)
             wanted = self.ran('"$0" trial "$1" --pattern all --tracks "$2"', situation, tracks)
             self.assertEqual((status, wanted[0], said), (0, 0, b""), wanted)
             name = out.split(b"tracks of ")[1].split(b". Behind")[0] if name is None else name.encode()
@@ -200,7 +202,7 @@ class Unforeseen(unittest.TestCase):
             (RecursionError("maximum"), 70, "osp draft: what it was given stands too deep in itself\n"),
             (BrokenPipeError(32, "Broken pipe"), 6, "write fault: Broken pipe\n"),
             (OSError(28, "No space left on device", "a\u202eb"), 70, "osp draft: it failed: a\\u202eb: No space left on device\n"),
-            (ZeroDivisionError("by\n\x1b[2Jnought"), 70, "osp draft: it failed: ZeroDivisionError: by\\n\\x1b[2Jnought; please tell the project, with the files\n"),
+            (ZeroDivisionError("by\n\x1b[2Jnought"), 70, f"osp draft: it failed: ZeroDivisionError: by\\n\\x1b[2Jnought; {TELL}\n"),
         )
         for wrong, status, line in rows:
             with self.subTest(line):
@@ -214,7 +216,7 @@ class Unforeseen(unittest.TestCase):
         except ValueError as it:
             status, line = self.guarded(it)
         self.assertEqual(status, 70)
-        self.assertRegex(line, r"\Aosp draft: it failed at moments\.py, line \d+: ValueError: no time; please tell the project, with the files\n\Z")
+        self.assertRegex(line, rf"\Aosp draft: it failed at moments\.py, line \d+: ValueError: no time; {TELL}\n\Z")
 
     def test_signals_and_ends_go_on(self):
         with self.assertRaises(stopping.Stopped) as caught:

@@ -37,6 +37,7 @@ class Judge(unittest.TestCase):
             ("kill -INT $$; sleep 5", ["brief", "s"], {"more": frozenset({-2})}),
             ("exec sleep 9", ["brief", "s"], {"signal": (signal.SIGTERM, 0.2), "more": frozenset({-15})}),
             ("cat", ["brief", "-"], {"given": b"in"}),
+            ("echo whole > o; exec sleep 9", ["brief", "-o", "o", "s"], {"out": "o", "signal": (signal.SIGTERM, 0.5), "more": frozenset({-15})}),
             (f"[ -p pipe ] && [ -L link ] && [ s -ef hard ] && {SAYS} 70", ["brief", "s"], {"links": {"link": "s"}, "hard": {"hard": "s"}, "pipes": ("pipe",), "wanted": frozenset({70})}),
         ):
             with self.subTest(script):
@@ -63,6 +64,7 @@ class Judge(unittest.TestCase):
             ("touch $TMPDIR/x", ["brief", "s"], {}, "left in TMPDIR: 'x'"),
             ("touch in/CANARY", ["brief", "s"], {}, "what stands in a text or a name was run"),
             (f"echo half > o; {SAYS} 6", ["brief", "-o", "o", "s"], {"out": "o"}, "status 6, and the file behind -o is another one"),
+            ("echo half > o; sleep 1; echo >> o", ["brief", "-o", "o", "s"], {"out": "o", "signal": (signal.SIGTERM, 0.5)}, "status -15, and the file"),
             ("sleep 9 > /dev/null 2>&1 &", ["brief", "s"], {}, "1 of its processes went on"),
         ):
             with self.subTest(script):
