@@ -220,11 +220,11 @@ class Table:
 def of_netcdf(name, path, clock, frame, digest):
     """What a netCDF file of a name and a checksum has. Raises BadSituation and packages.Lacking."""
     netcdf = packages.module("netCDF4", "python3-netcdf4", "a netCDF file of tracks needs the package")
-    metres = in_metres(name, frame, DEGREES)
     try:
         with netcdf.Dataset(os.path.abspath(path)) as data:
             if other := fields.told(data):
                 raise wrong(name, f"{other}; of tracks {VARIABLES}")
+            metres = in_metres(name, frame, DEGREES)
             file = Variables(name, data, minutes_of(name, netcdf, data, clock))
             courses, empty = file.courses()
     except (OSError, RuntimeError):
