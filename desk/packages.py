@@ -34,11 +34,11 @@ def module(name, package, what):
 
 def why(name, package):
     """Why the module of a name, which a package has, can't be loaded, and what helps."""
-    install = f"which isn't there for this Python: install it, as by apt install {package}"
+    install = f"install it, as by apt install {package}"
     if is_debians():
-        return install
+        return f"which isn't there for this Python: {install}"
     if not importlib.machinery.PathFinder.find_spec(name.split(".")[0], [DEBIAN]):
-        return f"{install}, which makes it for {PYTHON}"
+        return f"which isn't there for this Python, and not for {PYTHON} either: {install}"
     this = f"{sys.executable or 'this Python'}, which is {sys.version_info[0]}.{sys.version_info[1]}"
     return f"which is there for {PYTHON}, and not for {this}: let Debian's Python come first, as by PATH=/usr/bin:$PATH"
 

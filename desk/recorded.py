@@ -255,13 +255,13 @@ class Table:
 def of_netcdf(name, file, clock, frame, digest):
     """What an open netCDF file of a name and a checksum has. Raises BadSituation and packages.Lacking."""
     netcdf = packages.module("netCDF4", "python3-netcdf4", "a netCDF file of tracks needs the package")
-    metres = in_metres(name, frame, DEGREES)
     try:
         with warnings.catch_warnings(), dataset(netcdf, file) as data:
             # (The package warns of attributes that it doesn't use.)
             warnings.simplefilter("ignore")
             if other := fields.told(data):
                 raise wrong(name, f"{other}; of tracks {VARIABLES}")
+            metres = in_metres(name, frame, DEGREES)
             told = Variables(name, data, minutes_of(name, netcdf, data, clock))
             courses, empty = told.courses()
     except (OSError, RuntimeError) as why:

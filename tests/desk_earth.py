@@ -95,17 +95,17 @@ class Lacking(unittest.TestCase):
     def said(self, executable, debian=packages.DEBIAN):
         """What is said by a Python of a name where geographiclib can't be loaded, and Debian's packages are in a folder."""
         with (without("geographiclib.geodesic"), mock.patch("sys.executable", executable), mock.patch("desk.packages.DEBIAN", debian),
-              mock.patch("sys.path", sys.path.copy()), self.assertRaises(packages.Lacking) as lacking):
+              self.assertRaises(packages.Lacking) as lacking):
             earth.Frame(57, 10).to_earth(0, 0)
         self.assertTrue(str(lacking.exception).startswith(self.TOLD), lacking.exception)
         return str(lacking.exception).removeprefix(self.TOLD)
 
     def test_a_lacking_package_is_told_in_one_line(self):
-        install = "isn't there for this Python: install it, as by apt install python3-geographiclib"
+        none, install = "isn't there for this Python", ": install it, as by apt install python3-geographiclib"
         with tempfile.TemporaryDirectory() as empty:
-            self.assertEqual(self.said(packages.PYTHON, empty), install)
-            self.assertEqual(self.said(os.path.realpath(packages.PYTHON), empty), install)
-            self.assertEqual(self.said("/opt/other/bin/python3", empty), f"{install}, which makes it for /usr/bin/python3")
+            self.assertEqual(self.said(packages.PYTHON, empty), none + install)
+            self.assertEqual(self.said(os.path.realpath(packages.PYTHON), empty), none + install)
+            self.assertEqual(self.said("/opt/other/bin/python3", empty), f"{none}, and not for /usr/bin/python3 either{install}")
 
     def test_another_python_that_cannot_load_it_is_told_whose_it_is(self):
         this = f"/opt/other/bin/python3, which is {sys.version_info[0]}.{sys.version_info[1]}"

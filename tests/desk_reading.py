@@ -100,14 +100,15 @@ class Names(Room):
             self.assertEqual(self.guarded(words, 110_000_000)[0], 0, words)
 
     def test_where_memory_ends(self):
-        """One line and status 70, wherever that is. (Below some 26 MB Python itself doesn't begin.)"""
+        """One line and status 70, wherever that is. (With some 16 to 20 MB Python itself doesn't begin, or not the guard.)"""
         situation, ends = self.write("s.toml", read(KAYAKER) + FEW), set()
-        for most in range(28_000_000, 60_000_000, 4_000_000):
+        for most in range(16_000_000, 56_000_000, 2_000_000):
             status, out, said = self.guarded(["draft", situation], most)
-            ends.add(status)
-            if status:
-                self.assertEqual((status, out, said), (70, b"", b"osp draft: there is too little memory\n"), most)
-        self.assertIn(70, ends)
+            if status in (0, 70) or ends:
+                ends.add(status)
+                self.assertEqual(said if status else b"", b"osp draft: there is too little memory\n" if status else b"", most)
+                self.assertTrue(status == 0 or out == b"", most)
+        self.assertEqual(ends, {0, 70})
 
     @staticmethod
     def guarded(words, most):

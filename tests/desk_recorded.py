@@ -255,6 +255,11 @@ class Fields(File):
             with self.subTest(variables):
                 self.assertEqual(self.field(variables), f"[tracks] file: field.nc: it has {told}")
 
+    def test_it_is_told_before_the_place_of_the_area_is_asked_for(self):
+        self.field({"uo": "eastward_sea_water_velocity"})
+        told = self.refused(self.ensemble, "field.nc", frame=None)
+        self.assertTrue(told.startswith("[tracks] file: field.nc: it has currents (uo), and no tracks"), told)
+
     def test_what_is_known_by_nothing_is_told_as_before(self):
         """A stress of the wind is none, a temperature neither; and u of a standard name that isn't one of currents goes by that name."""
         told = "[tracks] file: field.nc: it should have the dimensions trajectory and time"

@@ -1,4 +1,6 @@
 """Debian's packages that tests need: a case that lacks one is skipped, and says which."""
+import contextlib
+import sys
 import unittest
 from unittest import mock
 
@@ -14,9 +16,11 @@ def needing(name, package):
         return unittest.skip(str(lacking))
 
 
+@contextlib.contextmanager
 def without(name):
-    """A patch under which the module of a name isn't there, wherever packages are looked for."""
-    return mock.patch.dict("sys.modules", {name: None})
+    """Under it the module of a name isn't there, wherever packages are looked for, and Debian's folder for them neither."""
+    with mock.patch.dict("sys.modules", {name: None}), mock.patch("sys.path", sys.path.copy()), mock.patch("desk.packages.DEBIAN", "/nonexistent"):
+        yield
 
 
 on_earth = needing("geographiclib.geodesic", "python3-geographiclib")
