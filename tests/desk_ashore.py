@@ -52,7 +52,8 @@ class Held(unittest.TestCase):
     def test_who_comes_off_again_is_not(self):
         """The tide turns behind period 3, or in the middle of period 4."""
         for turns in ("13:30", "13:45"):
-            made = tracks.made(situation.situation(WALL.encode() + f'[[current]]\nbegins = "{turns}"\nknots = 0.5\ntowards = 270\n'.encode()))
+            back = f'[[current]]\nbegins = "{turns}"\nknots = 0.5\ntowards = 270\n'
+            made = tracks.made(situation.situation((WALL + back).encode()))
             self.assertGreater(len(made.ashore[2]), 9000)
             self.assertEqual(made.ashore[3], [])
 
@@ -83,7 +84,10 @@ class Held(unittest.TestCase):
 
 
 class Told(unittest.TestCase):
-    NOTE = "note: who is held by land is taken to float before it, where a look finds them as anywhere else; a party on the shore may find them, too"
+    NOTE = (
+        "note: who is held by land is taken to float before it, where a look finds them as anywhere else; "
+        "a party on the shore may find them, too"
+    )
 
     def test_shares_and_squares_at_the_first_and_the_last_look(self):
         told = "land holds 0.000 percent at the first look, and 100.000 at the last, if no look finds anything"
@@ -114,7 +118,7 @@ class Told(unittest.TestCase):
 class Beside(unittest.TestCase):
     """Shares by square, at the first and the last look, beside those of a second simulation that shares nothing with the desk's."""
 
-    COUNT = 2000
+    COUNT = 1000
 
     def held(self, of):
         """How many of so many persons were held in their last step before each look, by pairs of period and square."""

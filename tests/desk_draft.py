@@ -430,10 +430,10 @@ class Drafts(unittest.TestCase):
             self.assertTrue(any(it.startswith(note) for it in lines), lines)
 
     def test_a_drift_that_is_wider_than_the_tracks_is_noted(self):
-        """Tracks in a circle of 400 m around the corner of four cells of 1 km have a standard deviation of 400 / 2 m along each axis. A quarter
-        of them is in each cell, so those of the chain have one of sqrt(500^2 + 1000^2 / 12), which is 577 m: 816 and 283 m along both."""
+        """Tracks in a circle of 400 m around the corner of four cells of 1 km have a standard deviation of 400 / 2 m along each axis. A
+        quarter of them is in each cell, so those of the chain have sqrt(500^2 + 1000^2 / 12), which is 577 m: 816 and 283 m along both."""
         text = LAKE.replace("cell_size = 463", "cell_size = 1000").replace('cell = "r1c1"', "at = [2000, 1000]\nradius = 400")
-        form = r"note: the scenario's drift is (\d+) percent wider than the tracks at the first look, (\d+) m and not (\d+): states are coarse .*"
+        form = r"note: the scenario's drift is (\d+) percent wider than the tracks at the first look, (\d+) m and not (\d+): states are .*"
         for finer, hint in (("finer = 1", "; a larger [tracks] finer, fewer periods, or smaller cells"), ("", None), ("finer = 4", None)):
             noted = [it for it in made(text.replace("finer = 1", finer))[2] if "wider than the tracks" in it]
             self.assertEqual(len(noted), hint is not None, (finer, noted))

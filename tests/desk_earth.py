@@ -126,18 +126,23 @@ class Lacking(unittest.TestCase):
         asked = "import sys; sys.path.insert(0, sys.argv[1])\nfrom desk import packages\nprint(packages.module(*sys.argv[2:]).__name__)"
         for python in found:
             words = [python, "-I", "-B", "-c", asked, TOP]
-            said = subprocess.run([*words, "netCDF4", "python3-netcdf4", "it needs"], capture_output=True, text=True).stderr.splitlines()[-1]
+            said = answered([*words, "netCDF4", "python3-netcdf4", "it needs"]).stderr.splitlines()[-1]
             self.assertIn("it needs python3-netcdf4, which is there for /usr/bin/python3, and not for ", said)
             self.assertIn(": let Debian's Python come first, as by PATH=/usr/bin:$PATH", said)
             if os.path.exists(os.path.join(packages.DEBIAN, "geographiclib")):
-                done = subprocess.run([*words, "geographiclib.geodesic", "python3-geographiclib", "it needs"], capture_output=True, text=True)
+                done = answered([*words, "geographiclib.geodesic", "python3-geographiclib", "it needs"])
                 self.assertEqual(done.stdout, "geographiclib.geodesic\n", done.stderr)
+
+
+def answered(words):
+    """What a run of these words came to."""
+    return subprocess.run(words, capture_output=True, text=True)
 
 
 def is_newer(python):
     """Whether a Python is of a later minor version than Debian's own."""
     asked = "import sys; print(*sys.version_info[:2])"
-    one, other = (subprocess.run([it, "-I", "-c", asked], capture_output=True, text=True).stdout.split() for it in (python, packages.PYTHON))
+    one, other = (answered([it, "-I", "-c", asked]).stdout.split() for it in (python, packages.PYTHON))
     return bool(one and other) and [*map(int, one)] > [*map(int, other)]
 
 

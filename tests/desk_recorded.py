@@ -236,24 +236,24 @@ class Fields(File):
         return self.refused(self.ensemble, "field.nc")
 
     def test_what_it_has_is_told(self):
-        tracks = "of tracks it should have the dimensions trajectory and time, the variables lon and lat over both, and time, as OpenDrift writes them"
-        current, wind = "as in [[current]] with knots = 0.6 and towards = 45", "as in [[wind]] with knots = 12 and from = 270"
+        tracks = "; of tracks it should have the dimensions trajectory and time, the variables lon and lat over both, and time"
+        tracks += ", as OpenDrift writes them"
+        rows = "and no tracks; they are written as rows, as in "
+        current, wind = "[[current]] with knots = 0.6 and towards = 45", "[[wind]] with knots = 12 and from = 270"
+        eastward, northward = "eastward_sea_water_velocity", "northward_sea_water_velocity"
         for variables, told in (
-            ({"uo": "eastward_sea_water_velocity", "vo": "northward_sea_water_velocity"}, f"currents (uo, vo), and no tracks; they are written as rows, {current}; {tracks}"),
-            ({"a": "sea_water_x_velocity", "b": "sea_water_y_velocity"}, f"currents (a, b), and no tracks; they are written as rows, {current}; {tracks}"),
-            ({"a": "surface_eastward_sea_water_velocity"}, f"currents (a), and no tracks; they are written as rows, {current}; {tracks}"),
-            ({"water_u": "", "water_v": ""}, f"currents (water_u, water_v), and no tracks; they are written as rows, {current}; {tracks}"),
-            ({"u10": "eastward_wind", "v10": "northward_wind"}, f"winds (u10, v10), and no tracks; they are written as rows, {wind}; {tracks}"),
-            ({"a": "x_wind", "b": "wind_speed"}, f"winds (a, b), and no tracks; they are written as rows, {wind}; {tracks}"),
-            ({"hs": "sea_surface_wave_significant_height", "d": "sea_surface_wave_from_direction"}, f"waves (hs, d), and no tracks; {tracks}"),
-            ({"s": "sea_surface_wave_stokes_drift_x_velocity"}, f"waves (s), and no tracks; {tracks}"),
-            (
-                {"x": "x_wind", "u": "eastward_sea_water_velocity"},
-                f"currents (u) and winds (x), and no tracks; they are written as rows, {current} and {wind[6:]}; {tracks}",
-            ),
+            ({"uo": eastward, "vo": northward}, f"currents (uo, vo), {rows}{current}"),
+            ({"a": "sea_water_x_velocity", "b": "sea_water_y_velocity"}, f"currents (a, b), {rows}{current}"),
+            ({"a": "surface_eastward_sea_water_velocity"}, f"currents (a), {rows}{current}"),
+            ({"water_u": "", "water_v": ""}, f"currents (water_u, water_v), {rows}{current}"),
+            ({"u10": "eastward_wind", "v10": "northward_wind"}, f"winds (u10, v10), {rows}{wind}"),
+            ({"a": "x_wind", "b": "wind_speed"}, f"winds (a, b), {rows}{wind}"),
+            ({"hs": "sea_surface_wave_significant_height", "d": "sea_surface_wave_from_direction"}, "waves (hs, d), and no tracks"),
+            ({"s": "sea_surface_wave_stokes_drift_x_velocity"}, "waves (s), and no tracks"),
+            ({"x": "x_wind", "u": eastward}, f"currents (u) and winds (x), {rows}{current} and {wind}"),
         ):
             with self.subTest(variables):
-                self.assertEqual(self.field(variables), f"[tracks] file: field.nc: it has {told}")
+                self.assertEqual(self.field(variables), f"[tracks] file: field.nc: it has {told}{tracks}")
 
     def test_it_is_told_before_the_place_of_the_area_is_asked_for(self):
         self.field({"uo": "eastward_sea_water_velocity"})
@@ -263,7 +263,8 @@ class Fields(File):
     def test_what_is_known_by_nothing_is_told_as_before(self):
         """A stress of the wind is none, a temperature neither; and u of a standard name that isn't one of currents goes by that name."""
         told = "[tracks] file: field.nc: it should have the dimensions trajectory and time"
-        for variables in ({"t": "sea_water_temperature"}, {"s": "surface_downward_eastward_stress"}, {"uo": "eastward_sea_ice_velocity"}, {"any": ""}):
+        others = {"t": "sea_water_temperature"}, {"s": "surface_downward_eastward_stress"}, {"uo": "eastward_sea_ice_velocity"}, {"any": ""}
+        for variables in others:
             with self.subTest(variables):
                 self.assertTrue(self.field(variables).startswith(told), self.field(variables))
 

@@ -129,8 +129,8 @@ class Told(unittest.TestCase):
         self.assertEqual(notes(lit('sunset = "20:20"', 'sunrise = "02:30"')), [])
 
     def test_the_day_on_which_it_is_off_the_most(self):
-        """32 days from the equinox on. By ephem the sun sets at 17:31:30 on the first and at 18:39:51 on the last, and rises at 05:17:06 and at
-        03:52:02 on the day behind each."""
+        """32 days from the equinox on. By ephem the sun sets at 17:31:30 on the first and at 18:39:51 on the last, and rises at 05:17:06
+        and at 03:52:02 on the day behind each."""
         text = TEXT.replace("minutes = 15", "minutes = 1440").replace("periods = 2", "periods = 32").replace('"23:00"', '"11:00"')
         said = notes(lit('sunset = "17:32"', 'sunrise = "05:20"', begins="2026-03-20 12:00Z", text=text))
         sunset = self.told("sunset", "2026-04-20 17:32Z", "sets at 2026-04-20 18:40Z, 68 minutes after that")

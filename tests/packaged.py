@@ -19,7 +19,8 @@ def needing(name, package):
 @contextlib.contextmanager
 def without(name):
     """Under it the module of a name isn't there, wherever packages are looked for, and Debian's folder for them neither."""
-    with mock.patch.dict("sys.modules", {name: None}), mock.patch("sys.path", sys.path.copy()), mock.patch("desk.packages.DEBIAN", "/nonexistent"):
+    no_folder = mock.patch("desk.packages.DEBIAN", "/nonexistent")
+    with mock.patch.dict("sys.modules", {name: None}), mock.patch("sys.path", sys.path.copy()), no_folder:
         yield
 
 
