@@ -16,6 +16,8 @@ from desk.status import Status
 NO_MEMORY = "there is too little memory"
 # The same as a whole line, for where no line can be made.
 SHORT = b"osp: there is too little memory\n"
+# What the loader of the C library says where a library's parts find no room.
+NO_ROOM = ("failed to map segment", "annot allocate memory")
 # How many characters of an exception are told.
 MOST_TOLD = 200
 FOLDER = os.path.dirname(os.path.realpath(__file__))
@@ -43,6 +45,11 @@ def unforeseen(wrong):
     return f"it failed{at(wrong)}: {said}; please tell the project, with the files"
 
 
+def of_import(wrong):
+    """What is said of an ImportError: a library that finds no room is a matter of memory."""
+    return NO_MEMORY if any(it in str(wrong) for it in NO_ROOM) else unforeseen(wrong)
+
+
 def of_system(wrong):
     """What is said of an OSError that nobody foresaw."""
     if wrong.errno == errno.ENOMEM:
@@ -64,6 +71,8 @@ def ended(run):
         return Status.FAILED, "what it was given stands too deep in itself"
     except BrokenPipeError as wrong:
         return Status.UNWRITABLE, f"write fault: {wrong.strerror}"
+    except ImportError as wrong:
+        return Status.FAILED, of_import(wrong)
     except OSError as wrong:
         return Status.FAILED, of_system(wrong)
     except Exception as wrong:
