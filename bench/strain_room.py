@@ -17,7 +17,7 @@ OSP = os.path.join(TOP, "osp")
 SECONDS, GRACE = 180, 3
 # The file that no run may make: texts and names have commands in them that would.
 CANARY = "CANARY"
-# The statuses by command, as docs/FORMATS.md has them; `timed` is plan with --seconds or --minutes.
+# The statuses by command, as docs/COMMANDS.md has them; `timed` is plan with --seconds or --minutes.
 STATUSES = {
     **dict.fromkeys(("plan", "gap"), {0, 2, 3, 5, 6, 7, 8, 9, 70}),
     **dict.fromkeys(("check", "checkgap", "report", "convert"), {0, 1, 2, 3, 4, 5, 6, 7, 9, 70}),

@@ -21,7 +21,7 @@ INPUT = (
     "stand names of positions alone: files and options come before."
 )
 ENDS = "These are those of the commands; a helper ends with 0 where it wrote its answer, and explain as the program itself ends."
-DOCUMENTS = "the documents: README.md, docs/FORMATS.md with all texts, and examples/"
+DOCUMENTS = "the documents: README.md, docs/COMMANDS.md with all words and statuses, docs/FORMATS.md with all texts, and examples/"
 
 
 def roff(text):

@@ -43,7 +43,7 @@ def help_text():
             "\nBesides:\n",
             *(help_row(*it) for it in table.OWN),
             END,
-            f"{documents()}/FORMATS.md has the texts, and what each exit status says.\n",
+            f"{documents()}/FORMATS.md has the texts, and COMMANDS.md what each exit status says.\n",
         ]
     )
 

@@ -35,7 +35,7 @@ def whole_input(room):
     except OSError:
         fail("standard input cannot be read to its end, or not be kept in the folder for temporary files")
     if os.fstat(whole).st_size > MOST_IN:
-        fail("an unproved run reads at most 64 MiB; ./osp build makes the program, which reads all that docs/FORMATS.md says")
+        fail("an unproved run reads at most 64 MiB; ./osp build makes the program, which reads all that docs/COMMANDS.md says")
     os.lseek(whole, 0, os.SEEK_SET)
     return whole
 

@@ -87,8 +87,8 @@ class Cases(unittest.TestCase):
                 self.assertNotEqual(one, other, kind.__name__)
 
     def test_the_statuses_are_those_of_the_document(self):
-        """Each command of the table of FORMATS, and no status that the document doesn't have."""
-        with open(f"{TOP}/docs/FORMATS.md", encoding="utf-8") as file:
+        """Each command of the table of COMMANDS, and no status that the document doesn't have."""
+        with open(f"{TOP}/docs/COMMANDS.md", encoding="utf-8") as file:
             text = file.read()
         for status in set().union(*strain_room.STATUSES.values()):
             self.assertIn(f"\n| {status} | ", text)
