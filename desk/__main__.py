@@ -7,7 +7,7 @@ if not __package__:
     # As python3 -I desk/__main__.py, the folder that holds the desk isn't among those that are searched.
     sys.path.insert(0, os.path.dirname(os.path.dirname(os.path.realpath(__file__))))
 
-from desk import stopping  # noqa: E402
+from desk import guarding, stopping  # noqa: E402
 from door import files  # noqa: E402
 
 # The helpers by name, and the module of each, whose `main` takes the words behind the name and answers the exit status.
@@ -54,9 +54,9 @@ def main(words):
         print(f"usage: python3 -m desk {'|'.join(HELPERS)} WORDS..", file=sys.stderr)
         return 2
     files.guard()
-    stopping.watch()
     try:
-        return importlib.import_module(HELPERS[words[0]]).main(words[1:])
+        stopping.watch()
+        return guarding.guarded(words[0], lambda: importlib.import_module(HELPERS[words[0]]).main(words[1:]))
     except stopping.Stopped as it:
         return stopped(words[0], it.number)
     except files.IsTarget as it:

@@ -110,6 +110,13 @@ class Names(Room):
                 self.assertTrue(status == 0 or out == b"", most)
         self.assertEqual(ends, {0, 70})
 
+    def test_what_nobody_foresaw(self):
+        """The guard stands around each helper that the desk runs: one line, and status 70."""
+        code = "import sys; from unittest import mock; from desk import __main__ as desk, brief\nwith mock.patch.object(brief, 'main', side_effect=KeyError('x')): sys.exit(desk.main(['brief']))"
+        done = subprocess.run([sys.executable, "-c", code], cwd=TOP, capture_output=True, text=True, check=False)
+        self.assertEqual((done.returncode, done.stdout), (70, ""))
+        self.assertRegex(done.stderr, r"\Aosp brief: it failed at [a-z_]+\.py, line \d+: KeyError: 'x'; please tell the project, with the files\n\Z")
+
     @staticmethod
     def guarded(words, most):
         """The status, the output and what is said of a helper under the guard, which has so many bytes of addresses."""

@@ -226,8 +226,12 @@ class Letters(Strained):
             self.assertIn(wanted, self.ran(*words)[2])
         self.assertEqual(quoting.harmless("a\x1b\u202e\u2066\u2028\u200b\x9b\udcff"), r"a\x1b\u202e\u2066\u2028\u200b\x9b\xff")
         self.assertEqual(quoting.word("a\tb\n"), r"a\tb\n")
+        # The front door cuts long names, too, and takes none of more than 4096 letters.
+        said = self.ran("brief", "n" * 4_000, "plan")[2]
+        self.assertRegex(said, r"cannot read n+ \.\..*: File name too long")
+        self.assertLess(len(said), 400)
         said = self.ran("brief", "n" * 100_000, "plan")[2]
-        self.assertIn(f"cannot read {'n' * 255} ..: File name too long", said)
+        self.assertRegex(said, r"\Aosp: n+ \.\. \(100000 letters\) is no word of brief: the longest has 4096 letters\n\Z")
         self.assertLess(len(said), 400)
         self.assertEqual(quoting.harmless("a\tb\nc \u00e9 \u05d0"), "a\tb\nc \u00e9 \u05d0")
 
