@@ -71,5 +71,22 @@ const carried = (function () {
     }
   }
 
-  return { unpacked, tellSum, joined, lacking, ask, stop };
+  // What it answers to one of the steps of some work, unless that was ended meanwhile.
+  async function asked(work, words, input) {
+    const answer = await ask(words, input);
+    if (work.isStopped) {
+      throw new Error("it was stopped");
+    }
+    return answer;
+  }
+
+  // Ends some work, where there is any, with the run at hand.
+  function end(work) {
+    if (work !== null) {
+      work.isStopped = true;
+      stop();
+    }
+  }
+
+  return { unpacked, tellSum, joined, lacking, ask, asked, end };
 }());

@@ -129,21 +129,8 @@ const onscene = (function () {
   }
 
   // What the program answers, unless it is stopped.
-  async function ask(words, input) {
-    const mine = running;
-    const answer = await carried.ask(words, input);
-    if (mine.isStopped) {
-      throw new Error("it was stopped");
-    }
-    return answer;
-  }
-
-  function stop() {
-    if (running !== null) {
-      running.isStopped = true;
-      carried.stop();
-    }
-  }
+  const ask = (words, input) => carried.asked(running, words, input);
+  const stop = () => carried.end(running);
 
   // The words of positions that are flown.
   function words(path) {

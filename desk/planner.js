@@ -53,21 +53,8 @@
   }
 
   // What the program answers, unless it is stopped.
-  async function ask(words, input) {
-    const mine = running;
-    const answer = await carried.ask(words, input);
-    if (mine.isStopped) {
-      throw new Error("it was stopped");
-    }
-    return answer;
-  }
-
-  function stop() {
-    if (running !== null) {
-      running.isStopped = true;
-      carried.stop();
-    }
-  }
+  const ask = (words, input) => carried.asked(running, words, input);
+  const stop = () => carried.end(running);
 
   // What the program said of a text, and of a scenario the line itself, too.
   function fault(answer, scenario) {
